@@ -1,5 +1,7 @@
 """Which part of a certificate fails, in words, and the place where it can be seen outside the proof."""
 
+from collections import Counter
+
 from .days import promise_fault, told_of
 from .instances import certificate_part, least_times, trucks_for
 from .money_rule import Run, money_fault
@@ -10,7 +12,7 @@ PARTS = {
     3: "the truck lines aren't the plan's departures",
     4: "the points aren't in order, too many in a round, initial, or twice",
     5: "a table isn't in order, a share, a span or a gift breaks its rule, or the unit doesn't divide what plans cost",
-    6: "the splits and leaves aren't one tree",
+    6: "the splits and leaves, with the narrowings before them, aren't one tree",
     7: "some leaf is worth less than the claim",
     8: "the shipment isn't too late, or its fastest time is another",
 }
@@ -20,6 +22,10 @@ ALONE = (
     "this is a timetable alone, without the lines that show its claim. Its legs are a plan, and its cost and its trucks are"
     " right; to have the claim checked hand on the whole answer, which plan keeps with --certificate FILE"
 )
+
+# The lines of a tree, and how many more leaves each wants.
+WANTED = {"split": 1, "leaf": -1, "narrow": 0}
+MOST_SPLITS, MOST_NARROWINGS = 100_000, 50_000
 
 # The lines of tables.
 TABLE_LINES = ("table", "share", "span", "weight", "group", "gift")
@@ -243,15 +249,18 @@ def unit_fault(instance, certificate):
 
 
 def tree_fault(instance, certificate):
-    nodes = [it for it in certificate if it.kind in ("split", "leaf")]
+    nodes = [it for it in certificate if it.kind in WANTED]
     wanted = 1
     for it in nodes:
         if wanted == 0:
             return f"line {it.line}: the tree is whole before it"
-        wanted += 1 if it.kind == "split" else -1
+        wanted += WANTED[it.kind]
     if wanted:
-        return f"{wanted:,} more leaves are wanted"
-    return f"{sum(it.kind == 'split' for it in nodes):,} splits, and 100,000 are allowed"
+        return f"{wanted:,} more {'leaf is' if wanted == 1 else 'leaves are'} wanted"
+    counts = Counter(it.kind for it in nodes)
+    if counts["split"] > MOST_SPLITS:
+        return f"{counts['split']:,} splits, and {MOST_SPLITS:,} are allowed"
+    return f"{counts['narrow']:,} narrowings, and {MOST_NARROWINGS:,} are allowed"
 
 
 def leaf_fault(instance, certificate):
@@ -273,7 +282,7 @@ PLACES = {
 
 def is_alone(certificate):
     """Whether the lines are a timetable without any that show its claim."""
-    return not any(it.kind in ("point", "table", "split", "leaf") for it in certificate)
+    return not any(it.kind in ("point", "table", *WANTED) for it in certificate)
 
 
 def stuck_fault(told, answer):

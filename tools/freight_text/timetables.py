@@ -50,7 +50,7 @@ class Timetable:
         self.answer = lines[0].fields if lines else ("answer", "none")
         self.legs = [Leg(*it.fields[1:4], int(it.fields[4]), int(it.fields[5])) for it in lines if it.kind == "leg"]
         self.departures = [self.departure(it.fields) for it in lines if it.kind == "truck"]
-        self.claims = [it for it in lines if it.kind in ("point", "table", "split", "leaf")]
+        self.claims = [it for it in lines if it.kind in ("point", "table", "split", "leaf", "narrow")]
         self.places = {it.key: place for place, it in enumerate(self.departures)}
         self.freight, self.onward = {}, {}
         for leg in self.legs:

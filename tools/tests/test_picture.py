@@ -87,6 +87,7 @@ class Claims(unittest.TestCase):
             (HUB, UNFINISHED.replace(b",1400,", b",0,"), "accepted,unfinished", "at most 1,503 above the cheapest there can be, proved"),
             (HUB, UNFINISHED.replace(b",1400,", b",1502,"), "accepted,unfinished", "at most 0.1 % above"),
             (HUB, HUB, "accepted,optimal", "The certificate has 1 table, 8 splits, 9 leaves."),
+            (HUB, HUB.replace(b"split,arc,S1", b"narrow,1,0,plain\nsplit,arc,S1"), None, "The certificate has 1 table, 8 splits, 1 narrowing, 9 leaves."),
             (HUB, HUB, None, "Trucks 1,500, flow 3. 3 shipments, 3 legs, 2 departures, 3 trucks (one for each leg alone: 3)."),
             (DAY, b"answer,infeasible,P1,580\nend\n", None, "No plan exists: shipment P1 can't be carried in time."),
             (DAY, b"answer,stuck,P1\nend\n", None, "No timetable keeps the legs that stand: shipment P1"),

@@ -75,10 +75,15 @@ INPUTS = (
     ("check", TABLE + "gift,A,B,0,9,1\n", 22),
     ("check", ANSWER + "table,1,moments,1\n", 22),
     ("check", ANSWER + "leaf,linear,0\n", 22),
+    ("check", ANSWER + "narrow,linear,0\n", 22),
+    ("check", ANSWER + "narrow,linear,0,plain,1,1\n", 22),
     ("check", ANSWER + "end,0\n", 22),
     ("check", ANSWER + "leg,S1,A,B,0,5x\n", 23),
     ("check", ANSWER + "leaf,1,0,loose\n", 23),
     ("check", ANSWER + "leaf,linear,0,plain,x\n", 23),
+    ("check", ANSWER + "narrow,line,0,plain\n", 23),
+    ("check", ANSWER + "narrow,linear,0,loose\n", 23),
+    ("check", ANSWER + "narrow,linear,0,plain,x\n", 23),
     ("check", DAY + "answer,unfinished,3,2,seconds\n", 23),
     ("check", TABLE + "gift,A,B,0,9,more,1\n", 23),
     ("check", ANSWER + "table,1,moment\n", 23),
@@ -98,6 +103,8 @@ INPUTS = (
     ("check", TABLE + "share,A,B,0,1\ntable,2\nweight,S1,1\n", 24),
     ("check", ANSWER + "gift,A,B,0,9,least,1\n", 24),
     ("check", ANSWER + "leaf,linear,0,plain\ngift,A,B,0,9,least,1\n", 24),
+    ("check", ANSWER + "narrow,linear,0,plain\ntable,1\n", 24),
+    ("check", DAY + "answer,direct,104\nnarrow,linear,0,plain\n", 24),
     ("check", TABLE + "gift,A,B,0,9,least,1\nshare,A,B,0,1\n", 24),
     ("check", TABLE + "gift,A,B,0,9,least,1\nspan,A,B,0,5,1,0\n", 24),
     ("check", TABLE + "span,A,B,0,5,1,0\ngift,A,B,0,9,most,1\nweight,S1,1\n", 24),
@@ -122,6 +129,11 @@ INPUTS = (
     ("check", ANSWER + "leaf,1,0,plain\n", 28),
     ("check", ANSWER + "leaf,0,4001,plain\n", 28),
     ("check", ANSWER + "leaf,linear,0,plain,100001\n", 28),
+    ("check", ANSWER + "narrow,1,0,plain\n", 28),
+    ("check", ANSWER + "narrow,0,0,plain\n", 28),
+    ("check", ANSWER + "narrow,linear,4001,plain\n", 28),
+    ("check", ANSWER + f"narrow,linear,0,plain,{2**127}\n", 28),
+    ("check", ANSWER + f"narrow,linear,0,plain,{2**127 - 1}\n", 26),
     ("check", ANSWER + "unit,0\n", 28),
     ("check", ANSWER + f"unit,{2**127}\n", 28),
     ("check", ANSWER + "scale,1000000001\n", 28),
@@ -156,10 +168,10 @@ INPUTS = (
 
 # What examples are damaged by: one of their bytes, a field or a record becomes one of these, or goes, or comes once more.
 BYTES = (b",", b"\n", b"\r", b'"', b" ", b"\t", b"0", b"9", b"A", b";", b"\xa0", b"\xc3\x89", b"\0", b"-")
-FIELDS = (b"", b"0", b"100001", b"99999999999999999999", b"A", b"S1", b"terminal", b"answer", b"kept", b"end", b"table", b"optimal", b"none", b'"x"', b"now", b"stuck", b"700", b"trucks", b"way", b"gift", b"most")
+FIELDS = (b"", b"0", b"100001", b"99999999999999999999", b"A", b"S1", b"terminal", b"answer", b"kept", b"end", b"table", b"optimal", b"none", b'"x"', b"now", b"stuck", b"700", b"trucks", b"way", b"gift", b"most", b"narrow")
 EXAMPLES = (
     ("direct", "carrier-day.csv"), ("bound", "one-arc.csv"), ("quote --rounds 0 --branches 0", "shared-truck.csv"),
-    ("check", "hub-proof.csv"), ("check", "two-or-three.csv"), ("check", "two-ways.csv"), ("check", "parted-shipments.csv"), ("check", "proved-plan.csv"), ("yard 1", "proved-plan.csv"), ("fleet", "proved-plan.csv"), ("replan --rounds 0 --branches 0", "kept-day.csv"),
+    ("check", "hub-proof.csv"), ("check", "two-or-three.csv"), ("check", "two-ways.csv"), ("check", "parted-shipments.csv"), ("check", "narrowed-ways.csv"), ("check", "proved-plan.csv"), ("yard 1", "proved-plan.csv"), ("fleet", "proved-plan.csv"), ("replan --rounds 0 --branches 0", "kept-day.csv"),
     ("replan --rounds 0 --branches 0", "new-order.csv"), ("check", "late-answer.csv"), ("check", "stuck-answer.csv"), ("yard 1", "late-answer.csv"),
     ("fleet --trucks", "late-answer.csv"), ("improve --rounds 0 --branches 0", "late-answer.csv"), ("quote --rounds 0 P4", "carrier-day.csv"),
 )  # fmt: skip

@@ -12,7 +12,7 @@ use Rattle.fp_flatnet.specs.declared.window_tables.Window.{Window}
 use Rattle.fp_flatnet.specs.Tables.{windows_in}
 use Rattle.fp_longestarcs.specs.Networks.{TimedNetwork, points_in}
 use Rattle.fp_tree.specs.declared.sides.Side.{Side}
-use Rattle.fp_tree.specs.declared.sides.Side.TheVariants.{Without, Only, Before, From, AtMost, MoreThan, Through}
+use Rattle.fp_tree.specs.declared.sides.Side.TheVariants.{Without, Only, Before, From, AtMost, MoreThan, Through, Outside}
 use Rattle.fp_allowed.specs.Allowed.{exit_of, meets_all}
 use Rattle.fp_allowed.specs.Bits.{allowed_in}
 use Rattle.fp_allowed.specs.Chains.{SeveralLeave, chain_stop}
@@ -106,6 +106,13 @@ one_truck = refl
 other_trucks : both 0 (AtMost 1 0 9 0 ∷ []) ≡ true ∷ true ∷ []
 other_trucks = refl
 
+-- outside the run from 0 until 3 the first shipment has no moment of the class from 0, and the second one has those it had
+outside_run : both 0 (Outside 0 0 0 3 ∷ []) ≡ false ∷ true ∷ []
+outside_run = refl
+
+outside_another : both 1 (Outside 0 0 0 3 ∷ []) ≡ both 1 []
+outside_another = refl
+
 -- two classes of the first shipment leave A
 several : SeveralLeave two (allowed_in setting [] 0) 0
 several = record { one = from 0; two = from 3; one_allowed = refl; two_allowed = refl; one_leaves = refl; two_leaves = refl; differ = λ same. absurd (omega (arith, ap (λ (c : Leg). c.depart) same)) }
@@ -133,6 +140,9 @@ left_from = refl
 -- a run in the middle leaves what is before it and after it
 left_beside : left 0 (AtMost 0 2 4 0 ∷ []) ≡ 4
 left_beside = refl
+
+left_outside : left 0 (Outside 0 0 2 4 ∷ []) ≡ 4
+left_outside = refl
 
 -- the head of the class from a point for a shipment with this window
 abbrev head : Option Window → ℕ → ℕ

@@ -7,7 +7,7 @@ use Rattle.std.proofs.lemmas.Bool.Decides.{eqb_tells}
 use Rattle.fp_model.specs.declared.parts.Leg.{Leg}
 use Rattle.fp_model.specs.Problem.{Problem}
 use Rattle.fp_tree.specs.declared.sides.Side.{Side}
-use Rattle.fp_tree.specs.declared.sides.Side.TheVariants.{Without, Only, Before, From, AtMost, MoreThan, Through}
+use Rattle.fp_tree.specs.declared.sides.Side.TheVariants.{Without, Only, Before, From, AtMost, MoreThan, Through, Outside}
 use Rattle.fp_allowed.specs.Allowed.{exit_of, is_rival, meets, meets_all, tails_of}
 use Rattle.fp_allowed.specs.Moments.{all_let, barring, bars, concerned, concerns, is_barred, is_barring, lets}
 
@@ -55,6 +55,15 @@ meets-concerned p k c (AtMost arc point until trucks) free =
     (cases_Bool (nat_eq trucks 0))
 meets-concerned p k c (MoreThan arc point until trucks) free = refl
 meets-concerned p k c (Through shipment arc) free = rw free refl
+meets-concerned p k c (Outside shipment arc point until) free =
+    ⊎_elim
+    (λ (own : nat_eq k shipment ≡ true).
+    ⊎_elim
+    (λ (same : (nat_eq c.arc arc ≡ true) × (c.arc ≡ arc)). rw (own, same.0, eq-eqb (tails_of p c.arc) (tails_of p arc) (ap (tails_of p) same.1)) refl)
+    (λ (other : (nat_eq c.arc arc ≡ false) × (c.arc ≢ arc)). rw (own, other.0) (sym (or_right (not (nat_eq (tails_of p c.arc) (tails_of p arc))) true refl)))
+    (eqb_tells c.arc arc))
+    (λ (other : nat_eq k shipment ≡ false). rw other refl)
+    (cases_Bool (nat_eq k shipment))
 
 -- so it meets all sides where the concerned ones let it
 pub meets_all-concerned : (p : Problem) (k : ℕ) (c : Leg) (sides : List Side) → is_barred p k c.arc sides ≡ false → meets_all k sides (exit_of p c) ≡ all_let c.arc c.depart (concerned p k (tails_of p c.arc) sides)
@@ -78,6 +87,7 @@ bars-barring p k arc (From shipment terminal at) none = refl
 bars-barring p k arc (AtMost other point until trucks) none = refl
 bars-barring p k arc (MoreThan other point until trucks) none = refl
 bars-barring p k arc (Through shipment other) none = ap (λ (b : Bool). b && is_rival p arc other) none
+bars-barring p k arc (Outside shipment other point until) none = refl
 
 -- so an arc is barred by all sides where it is by those that may
 pub is_barred-barring : (p : Problem) (k arc : ℕ) (sides : List Side) → is_barred p k arc (barring k sides) ≡ is_barred p k arc sides
@@ -97,6 +107,7 @@ meets-barred p k c (From shipment terminal at) barred = cc barred
 meets-barred p k c (AtMost arc point until trucks) barred = cc barred
 meets-barred p k c (MoreThan arc point until trucks) barred = cc barred
 meets-barred p k c (Through shipment arc) barred = ap not barred
+meets-barred p k c (Outside shipment arc point until) barred = cc barred
 
 -- so it doesn't meet all of them
 pub meets_all-barred : (p : Problem) (k : ℕ) (c : Leg) (sides : List Side) → is_barred p k c.arc sides ≡ true → meets_all k sides (exit_of p c) ≡ false

@@ -13,7 +13,7 @@ use Rattle.fp_model.specs.TruckCounts.{trucks_between}
 use Rattle.fp_timenodes.specs.Floor.{floor_point}
 use Rattle.fp_flatnet.specs.declared.window_tables.Window.{Window}
 use Rattle.fp_tree.specs.declared.sides.Side.{Side}
-use Rattle.fp_tree.specs.declared.sides.Side.TheVariants.{Without, Only, Before, From, AtMost, MoreThan, Through}
+use Rattle.fp_tree.specs.declared.sides.Side.TheVariants.{Without, Only, Before, From, AtMost, MoreThan, Through, Outside}
 use Rattle.fp_tree.specs.Sides.{Exit, HasCounts, HasWays, MeetsAll}
 
 -- the terminal that an arc leaves
@@ -38,6 +38,7 @@ meets k e (From shipment terminal at) = not (nat_eq k shipment && nat_eq e.tail 
 meets k e (AtMost arc point until trucks) = not (nat_eq trucks 0 && nat_eq e.arc arc && nat_le point e.moment && nat_lt e.moment until)
 meets k e (MoreThan arc point until trucks) = true
 meets k e (Through shipment arc) = not (nat_eq k shipment && e.is_rival arc)
+meets k e (Outside shipment arc point until) = not (nat_eq k shipment && nat_eq e.arc arc && nat_le point e.moment && nat_lt e.moment until)
 
 -- whether it meets all of the sides
 abbrev pub meets_all : ℕ → List Side → Exit → Bool

@@ -8,7 +8,7 @@ use Rattle.fp_model.specs.Problem.{Problem}
 use Rattle.fp_timenodes.specs.Floor.{floor_point}
 use Rattle.fp_flatnet.specs.declared.window_tables.Window.{Window}
 use Rattle.fp_tree.specs.declared.sides.Side.{Side}
-use Rattle.fp_tree.specs.declared.sides.Side.TheVariants.{Without, Only, Before, From, AtMost, MoreThan, Through}
+use Rattle.fp_tree.specs.declared.sides.Side.TheVariants.{Without, Only, Before, From, AtMost, MoreThan, Through, Outside}
 use Rattle.fp_allowed.specs.Allowed.{is_rival, tails_of}
 
 -- whether a side asks something of when and by which arc legs of the shipment with the number k leave one
@@ -21,6 +21,7 @@ speaks_of k (From shipment terminal at) = nat_eq k shipment
 speaks_of k (AtMost arc point until trucks) = nat_eq trucks 0
 speaks_of k (MoreThan arc point until trucks) = false
 speaks_of k (Through shipment arc) = false
+speaks_of k (Outside shipment arc point until) = nat_eq k shipment
 
 -- the terminal whose departures a side restricts
 abbrev pub terminal_of : Problem → Side → ℕ
@@ -31,6 +32,7 @@ terminal_of p (From shipment terminal at) = terminal
 terminal_of p (AtMost arc point until trucks) = tails_of p arc
 terminal_of p (MoreThan arc point until trucks) = tails_of p arc
 terminal_of p (Through shipment arc) = tails_of p arc
+terminal_of p (Outside shipment arc point until) = tails_of p arc
 
 -- whether a side restricts the departures from a terminal of the shipment with the number k
 abbrev pub concerns : Problem → ℕ → ℕ → Side → Bool
@@ -54,6 +56,7 @@ lets arc m (From shipment terminal at) = nat_le at m
 lets arc m (AtMost other point until trucks) = not (nat_eq arc other && in_range point until m)
 lets arc m (MoreThan other point until trucks) = true
 lets arc m (Through shipment other) = true
+lets arc m (Outside shipment other point until) = not (nat_eq arc other && in_range point until m)
 
 -- whether a side bars an arc for the shipment with the number k, whenever it would leave by it
 abbrev pub bars : Problem → ℕ → ℕ → Side → Bool
@@ -64,6 +67,7 @@ bars p k arc (From shipment terminal at) = false
 bars p k arc (AtMost other point until trucks) = false
 bars p k arc (MoreThan other point until trucks) = false
 bars p k arc (Through shipment other) = nat_eq k shipment && is_rival p arc other
+bars p k arc (Outside shipment other point until) = false
 
 -- whether one of the sides does
 abbrev pub is_barred : Problem → ℕ → ℕ → List Side → Bool
@@ -78,6 +82,7 @@ is_barring k (From shipment terminal at) = false
 is_barring k (AtMost other point until trucks) = false
 is_barring k (MoreThan other point until trucks) = false
 is_barring k (Through shipment other) = nat_eq k shipment
+is_barring k (Outside shipment other point until) = false
 
 -- the sides that may
 abbrev pub barring : ℕ → List Side → List Side

@@ -138,6 +138,12 @@ fn forbidden(arc: u32, side: Side) -> (u32, u32)
             point,
             until,
             ..
+        }
+        | Side::Outside {
+            arc: other,
+            point,
+            until,
+            ..
         } => {
             if arc == other && point < until {
                 (point.min(MOMENTS), until.min(MOMENTS))

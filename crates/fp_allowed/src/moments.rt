@@ -19,7 +19,8 @@ pub(crate) fn speaks_of(shipment: u32, side: Side) -> bool
         Side::Without { shipment: own, .. }
         | Side::Only { shipment: own, .. }
         | Side::Before { shipment: own, .. }
-        | Side::From { shipment: own, .. } => shipment == own,
+        | Side::From { shipment: own, .. }
+        | Side::Outside { shipment: own, .. } => shipment == own,
         Side::AtMost { trucks, .. } => trucks == 0,
         Side::MoreThan { .. } | Side::Through { .. } => false,
     }
@@ -59,7 +60,8 @@ fn bars(instance: &Instance, shipment: u32, arc: u32, side: Side) -> bool
         | Side::Before { .. }
         | Side::From { .. }
         | Side::AtMost { .. }
-        | Side::MoreThan { .. } => false,
+        | Side::MoreThan { .. }
+        | Side::Outside { .. } => false,
     }
 }
 
@@ -74,7 +76,8 @@ fn is_barring(shipment: u32, side: Side) -> bool
         | Side::Before { .. }
         | Side::From { .. }
         | Side::AtMost { .. }
-        | Side::MoreThan { .. } => false,
+        | Side::MoreThan { .. }
+        | Side::Outside { .. } => false,
     }
 }
 
@@ -106,7 +109,8 @@ pub(crate) fn terminal_of(instance: &Instance, side: Side) -> u32
         Side::Without { arc, .. }
         | Side::AtMost { arc, .. }
         | Side::MoreThan { arc, .. }
-        | Side::Through { arc, .. } => ends_of(instance, arc).0,
+        | Side::Through { arc, .. }
+        | Side::Outside { arc, .. } => ends_of(instance, arc).0,
         Side::Only { tail, .. } => tail,
         Side::Before { terminal, .. } | Side::From { terminal, .. } => terminal,
     }
@@ -151,6 +155,12 @@ fn lets_leave(side: Side, arc: u32, moment: u32) -> bool
             point,
             until,
             ..
+        }
+        | Side::Outside {
+            arc: other,
+            point,
+            until,
+            ..
         } => !(arc == other && (point <= moment && moment < until)),
         Side::MoreThan { .. } | Side::Through { .. } => true,
     }
@@ -182,7 +192,7 @@ fn alike_until(window: Window, arc: u32, side: Side) -> u32
         Side::Without { .. } | Side::Only { .. } | Side::MoreThan { .. } | Side::Through { .. } =>
             window.hi,
         Side::Before { at, .. } | Side::From { at, .. } => alike_by_time(window, at),
-        Side::AtMost { point, until, .. } => {
+        Side::AtMost { point, until, .. } | Side::Outside { point, until, .. } => {
             let hi = alike_by_time(window, point);
             let lo = window.lo;
             alike_by_time(Window { lo, hi }, until)

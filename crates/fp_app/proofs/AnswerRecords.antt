@@ -61,27 +61,28 @@ split_kind-other word =
     (other-if (bytes_eq word (codes "trucks")) (Some ByTrucks) (if bytes_eq word (codes "way") then Some ByWay else None) (tt {0})
     (other-if (bytes_eq word (codes "way")) (Some ByWay) None (tt {0}) (tt {0}))))
 
-other-by : (a b c d e f g h i j k l m n : Bool) (split : Option LineKind) → IsOther split →
-    IsOther (if a then Some Scale else if b then Some kind.Unit else if c then Some Leg else if d then Some Truck else if e then Some Point else if f then Some Table else if g then Some Share else if h then Some Span else if i then Some Weight else if j then Some kind.Group else if k then Some kind.Gift else if l then split else if m then Some Leaf else if n then Some End else None)
-other-by true b c d e f g h i j k l m n split other = tt
-other-by false true c d e f g h i j k l m n split other = tt
-other-by false false true d e f g h i j k l m n split other = tt
-other-by false false false true e f g h i j k l m n split other = tt
-other-by false false false false true f g h i j k l m n split other = tt
-other-by false false false false false true g h i j k l m n split other = tt
-other-by false false false false false false true h i j k l m n split other = tt
-other-by false false false false false false false true i j k l m n split other = tt
-other-by false false false false false false false false true j k l m n split other = tt
-other-by false false false false false false false false false true k l m n split other = tt
-other-by false false false false false false false false false false true l m n split other = tt
-other-by false false false false false false false false false false false true m n split other = other
-other-by false false false false false false false false false false false false true n split other = tt
-other-by false false false false false false false false false false false false false true split other = tt
-other-by false false false false false false false false false false false false false false split other = tt
+other-by : (a b c d e f g h i j k l m n o : Bool) (split : Option LineKind) → IsOther split →
+    IsOther (if a then Some Scale else if b then Some kind.Unit else if c then Some Leg else if d then Some Truck else if e then Some Point else if f then Some Table else if g then Some Share else if h then Some Span else if i then Some Weight else if j then Some kind.Group else if k then Some kind.Gift else if l then split else if m then Some Leaf else if n then Some kind.Narrow else if o then Some End else None)
+other-by true b c d e f g h i j k l m n o split other = tt
+other-by false true c d e f g h i j k l m n o split other = tt
+other-by false false true d e f g h i j k l m n o split other = tt
+other-by false false false true e f g h i j k l m n o split other = tt
+other-by false false false false true f g h i j k l m n o split other = tt
+other-by false false false false false true g h i j k l m n o split other = tt
+other-by false false false false false false true h i j k l m n o split other = tt
+other-by false false false false false false false true i j k l m n o split other = tt
+other-by false false false false false false false false true j k l m n o split other = tt
+other-by false false false false false false false false false true k l m n o split other = tt
+other-by false false false false false false false false false false true l m n o split other = tt
+other-by false false false false false false false false false false false true m n o split other = other
+other-by false false false false false false false false false false false false true n o split other = tt
+other-by false false false false false false false false false false false false false true o split other = tt
+other-by false false false false false false false false false false false false false false true split other = tt
+other-by false false false false false false false false false false false false false false false split other = tt
 
 kind_of-other : (fields : List (List ℕ)) → is_answer fields ≡ false → IsOther (kind_of fields)
 kind_of-other fields later =
-    rw later (other-by (is_kind (codes "scale") fields) (is_kind (codes "unit") fields) (is_kind (codes "leg") fields) (is_kind (codes "truck") fields) (is_kind (codes "point") fields) (is_kind (codes "table") fields) (is_kind (codes "share") fields) (is_kind (codes "span") fields) (is_kind (codes "weight") fields) (is_kind (codes "group") fields) (is_kind (codes "gift") fields) (is_kind (codes "split") fields) (is_kind (codes "leaf") fields) (is_kind (codes "end") fields)
+    rw later (other-by (is_kind (codes "scale") fields) (is_kind (codes "unit") fields) (is_kind (codes "leg") fields) (is_kind (codes "truck") fields) (is_kind (codes "point") fields) (is_kind (codes "table") fields) (is_kind (codes "share") fields) (is_kind (codes "span") fields) (is_kind (codes "weight") fields) (is_kind (codes "group") fields) (is_kind (codes "gift") fields) (is_kind (codes "split") fields) (is_kind (codes "leaf") fields) (is_kind (codes "narrow") fields) (is_kind (codes "end") fields)
     (split_kind (field fields 1)) (split_kind-other (field fields 1)))
 
 -- before an answer each other line has a fault
@@ -103,6 +104,7 @@ other-faulty p fields (Some ByTime) other none = held-not_none (faults_of p noth
 other-faulty p fields (Some ByTrucks) other none = held-not_none (faults_of p nothing_read ByTrucks fields) 2 refl none
 other-faulty p fields (Some ByWay) other none = held-not_none (faults_of p nothing_read ByWay fields) 1 refl none
 other-faulty p fields (Some Leaf) other none = held-not_none (faults_of p nothing_read Leaf fields) 2 refl none
+other-faulty p fields (Some kind.Narrow) other none = held-not_none (faults_of p nothing_read kind.Narrow fields) 2 refl none
 other-faulty p fields (Some End) other none = held-not_none (faults_of p nothing_read End fields) 1 refl none
 other-faulty p fields (Some Direct) other none = absurd other
 other-faulty p fields (Some Optimal) other none = absurd other

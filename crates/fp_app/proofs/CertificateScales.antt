@@ -40,6 +40,7 @@ kind_code-scale p scale before (Some ByTime) fields = refl
 kind_code-scale p scale before (Some ByTrucks) fields = refl
 kind_code-scale p scale before (Some ByWay) fields = refl
 kind_code-scale p scale before (Some Leaf) fields = refl
+kind_code-scale p scale before (Some kind.Narrow) fields = refl
 kind_code-scale p scale before (Some End) fields = refl
 
 line_code-scale : (p : Problem) (scale : ℕ) (before : Draft) (fields : List (List ℕ)) → line_code (scaled_to p scale) before fields ≡ line_code p before fields
@@ -67,6 +68,7 @@ with_kind-scale p scale before (Some ByTime) fields = refl
 with_kind-scale p scale before (Some ByTrucks) fields = refl
 with_kind-scale p scale before (Some ByWay) fields = refl
 with_kind-scale p scale before (Some Leaf) fields = refl
+with_kind-scale p scale before (Some kind.Narrow) fields = refl
 with_kind-scale p scale before (Some End) fields = refl
 
 pub certificate-scale : (p : Problem) (scale : ℕ) (before : Draft) (ordinal : ℕ) (lines : List (List (List ℕ))) → certificate_from (scaled_to p scale) before ordinal lines ≡ certificate_from p before ordinal lines

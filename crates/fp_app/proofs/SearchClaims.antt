@@ -91,6 +91,7 @@ flat-price h sides v flat value least (inr earned) is =
 flat-node : (h : History) (n : Node) (sides : List Side) (flat bound : ℕ) → IfSome h.unit (λ u. 1 ≤ u) → IsFlatBound h.problem flat → IsPrintedLeaf h (record { node = n; sides = sides }) →
     OfLeaf (λ v under. IsWorth h under v bound) (record { node = n; sides = sides }) → div_ceil flat h.problem.scale ≤ bound
 flat-node h (node.Branch split) sides flat bound some least printed worth = absurd worth
+flat-node h (node.Narrow narrowing) sides flat bound some least printed worth = absurd worth
 flat-node h (node.Leaf v) sides flat bound some least printed worth =
     let whole : div_ceil flat h.problem.scale ≤ div_ceil worth.value h.problem.scale = div_ceil_mono flat worth.value h.problem.scale (flat-price h sides v flat worth.value least printed worth.is) in
     omega (arith, whole, rounded_up-more h.unit (div_ceil worth.value h.problem.scale) some, worth.rounded)

@@ -16,7 +16,7 @@ use Rattle.fp_tree.specs.declared.sides.Split.TheVariants.{ByArc, ByTime, ByTruc
 use Rattle.fp_certificate_lines.specs.declared.certificates.Answer.{Answer}
 use Rattle.fp_certificate_lines.specs.declared.certificates.Answer.TheVariants.{Direct, Infeasible, Optimal, Unfinished}
 use Rattle.fp_certificate_lines.specs.declared.certificates.Node.{Node}
-use Rattle.fp_certificate_lines.specs.declared.certificates.Node.TheVariants.{Branch, Leaf}
+use Rattle.fp_certificate_lines.specs.declared.certificates.Node.TheVariants.{Branch, Leaf, Narrow}
 use Rattle.fp_certificate_lines.specs.Ranges.{IsAnswerInRange, IsGiftInRange, IsInRange, IsLegInRange, IsNodeInRange, IsPointInRange, IsScaleInRange, IsShareInRange, IsSpanInRange, IsTruckInRange, IsTruckSplitInRange, IsWeightInRange}
 use Rattle.fp_certificate_lines.specs.Statements.{Statement}
 use Rattle.fp_app_tails.specs.Verdicts.{CanBeTested}
@@ -76,6 +76,7 @@ module _ (p : Problem) (scale : ℕ) where
   node-in_range tables (Branch (ByTrucks arc point until most)) is = split-in_range arc point until most is
   node-in_range tables (Branch (ByWay shipment arc)) is = is
   node-in_range tables (Leaf valuation) is = is
+  node-in_range tables (Narrow narrowing) is = is
 
   all-in_range : (c : Statement) → IsInRange p c → IsInRange rescaled c
   all-in_range c is = record {

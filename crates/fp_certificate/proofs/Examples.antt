@@ -1,11 +1,11 @@
 -- What reading says of a worked certificate and of altered ones.
 use Rattle.std.proofs.Common.{◌≡◌, ℕ, false, true, List, [], ◌∷◌, ◌++◌, refl}
-use Rattle.std.specs.Prelude.{Result, Ok, Err, Some, codes}
-use Rattle.fp_prices.specs.declared.leaf_prices.Kind.TheVariants.{Linear}
+use Rattle.std.specs.Prelude.{Result, Ok, Err, None, Some, codes}
+use Rattle.fp_prices.specs.declared.leaf_prices.Kind.TheVariants.{Even, Linear}
 use Rattle.fp_records_fields.specs.Faults.{Fault}
 use Rattle.fp_tree.specs.declared.sides.Split.TheVariants.{ByTrucks}
 use Rattle.fp_certificate.specs.Reading.{certificate_of}
-use Rattle.fp_certificate_lines.specs.declared.certificates.Node.TheVariants.{Branch, Leaf}
+use Rattle.fp_certificate_lines.specs.declared.certificates.Node.TheVariants.{Branch, Leaf, Narrow}
 use Rattle.fp_certificate_lines.specs.Statements.{Statement}
 use Rattle.fp_certificate_lines.proofs.Examples.{answer, best, last, leaf, leg, records, small, truck, whole}
 
@@ -341,6 +341,31 @@ sides-none = refl
 -- it is the last field
 sides-twice : read (answer ∷ (codes "leaf" ∷ codes "linear" ∷ codes "0" ∷ codes "forced" ∷ codes "0" ∷ codes "0" ∷ []) ∷ []) ≡ bad 6 22
 sides-twice = refl
+
+-- a narrowing before a leaf, with the worth from which on it bars classes, or without
+abbrev narrowing : List ℕ → List (List ℕ)
+narrowing worth = codes "narrow" ∷ codes "linear" ∷ codes "0" ∷ codes "forced" ∷ worth ∷ []
+
+reads-narrowing : read (answer ∷ narrowing (codes "170141183460469231731687303715884105727") ∷ (codes "narrow" ∷ codes "even" ∷ codes "4000" ∷ codes "plain" ∷ []) ∷ leaf (codes "linear") (codes "forced") ∷ last ∷ [])
+    ≡ Ok (record best {
+      legs = [];
+      trucks = [];
+      tree = Narrow (record { price = record { kind = Linear; round = 0; forced = true }; worth = Some 170141183460469231731687303715884105727 })
+          ∷ Narrow (record { price = record { kind = Even; round = 4000; forced = false }; worth = None }) ∷ best.tree;
+    })
+reads-narrowing = refl
+
+worth-past : read (answer ∷ narrowing (codes "170141183460469231731687303715884105728") ∷ []) ≡ bad 6 28
+worth-past = refl
+
+worth-none : read (answer ∷ narrowing [] ∷ []) ≡ bad 6 23
+worth-none = refl
+
+narrowing-table : read (answer ∷ (codes "narrow" ∷ codes "1" ∷ codes "0" ∷ codes "plain" ∷ []) ∷ []) ≡ bad 6 28
+narrowing-table = refl
+
+narrowing-early : read (answer ∷ narrowing (codes "1") ∷ leg (codes "0") ∷ []) ≡ bad 7 24
+narrowing-early = refl
 
 -- the name goes before the range
 name-first : read (answer ∷ (codes "point" ∷ codes "C" ∷ codes "0" ∷ codes "4001" ∷ []) ∷ []) ≡ bad 6 25

@@ -7,6 +7,8 @@ mod ListsBack
 pub mod NamesBack
 pub mod NumbersBack
 mod PlainRows
+mod PriceRanges
+mod PricesBack
 pub mod RangedFields
 pub mod Ranged
 mod ReadEnds

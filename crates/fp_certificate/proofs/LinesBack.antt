@@ -1,19 +1,14 @@
 -- Each written line has no fault where it can stand, and gives what it was written for.
 use Rattle.std.proofs.Common.{◌≡◌, ℕ, ◌+◌, ◌^◌, ◌<◌, Bool, true, false, List, [], length, refl, arith}
-use Rattle.std.specs.Prelude.{Option, Some, None, ◌||◌, codes, if◌then◌else◌, is_some}
+use Rattle.std.specs.Prelude.{None, ◌||◌, codes, is_some}
 use Rattle.std.specs.Str.{bytes_eq}
 use Rattle.std.proofs.lemmas.Bool.{eq-eqb, lt-ltb}
 use Rattle.fp_model.specs.declared.limits.TheConstants.{GREATEST_SCALE, LAST_ROUND, LATEST}
 use Rattle.fp_model.specs.Problem.{IsValid, Problem, weight_at}
-use Rattle.fp_prices.specs.declared.leaf_prices.Kind.{Kind}
-use Rattle.fp_prices.specs.declared.leaf_prices.Kind.TheVariants as price
-use Rattle.fp_prices.specs.declared.leaf_prices.LeafPrice.{LeafPrice}
 use Rattle.fp_prices.specs.declared.tables.Weight.{Weight}
 use Rattle.fp_prices.specs.Shares.{ClassShare}
-use Rattle.fp_prices.specs.Tables.{HasKind}
 use Rattle.fp_prices_gifts.specs.declared.gifts.Gift.{Gift}
 use Rattle.fp_prices_spans.specs.Spans.{ClassSpan}
-use Rattle.fp_records_fields.specs.Fields.{is_number, is_within, number}
 use Rattle.fp_records.specs.Fields.{is_empty}
 use Rattle.fp_timenodes.specs.declared.places.AddedPoint.{AddedPoint}
 use Rattle.fp_timetable.specs.declared.lines.LegLine.{LegLine}
@@ -21,6 +16,7 @@ use Rattle.fp_timetable.specs.declared.lines.TruckLine.{TruckLine}
 use Rattle.fp_tree.specs.declared.layout.TheConstants.{MOST_SPLITS}
 use Rattle.fp_tree.specs.declared.sides.Split.{Split}
 use Rattle.fp_tree.specs.declared.sides.Split.TheVariants as split
+use Rattle.fp_certificate_lines.specs.declared.certificates.Narrowing.{Narrowing}
 use Rattle.fp_certificate_lines.specs.declared.certificates.Node.{Node}
 use Rattle.fp_certificate_lines.specs.declared.certificates.Node.TheVariants as node
 use Rattle.fp_certificate_lines.specs.declared.certificates.Valuation.{Valuation}
@@ -30,14 +26,15 @@ use Rattle.fp_certificate.specs.Answers.{with_scale, with_unit}
 use Rattle.fp_certificate.specs.Gifts.{with_gift}
 use Rattle.fp_certificate.specs.Sections.{has_ended, is_misplaced}
 use Rattle.fp_certificate.specs.Points.{with_point}
-use Rattle.fp_certificate_lines.specs.Ranges.{IsGiftInRange, IsGroupInRange, IsLeafInRange, IsLegInRange, IsNodeInRange, IsPointInRange, IsScaleInRange, IsShareInRange, IsSpanInRange, IsSplitInRange, IsTruckInRange, IsUnitInRange, IsWeightInRange, largest_count, largest_figure}
+use Rattle.fp_certificate_lines.specs.Ranges.{IsGiftInRange, IsGroupInRange, IsLeafInRange, IsLegInRange, IsNarrowingInRange, IsNodeInRange, IsPointInRange, IsScaleInRange, IsShareInRange, IsSpanInRange, IsSplitInRange, IsTruckInRange, IsUnitInRange, IsWeightInRange, largest_count, largest_figure}
 use Rattle.fp_certificate.specs.Reading.{line_code, with_line}
-use Rattle.fp_certificate_lines.specs.Rows.{end_fields, gift_fields, group_fields, kind_text, leaf_fields, leg_fields, mode_text, node_fields, point_fields, scale_fields, share_fields, side_text, span_fields, split_fields, table_fields, truck_fields, unit_fields, weight_fields}
+use Rattle.fp_certificate_lines.specs.Rows.{end_fields, gift_fields, group_fields, leaf_fields, leg_fields, narrowing_fields, node_fields, point_fields, scale_fields, share_fields, side_text, span_fields, split_fields, table_fields, truck_fields, unit_fields, weight_fields}
 use Rattle.fp_certificate.specs.Tables.{and_last_share_weight, and_last_span_weight, has_gift, has_group, has_span, lacks_share, with_group, with_lists, with_share, with_span, with_table}
 use Rattle.fp_certificate.specs.Timetables.{with_leg, with_truck}
 use Rattle.fp_certificate.specs.Trees.{with_end, with_node}
 use Rattle.fp_certificate.proofs.NamesBack.{arc-back, shipment-back, terminal-back}
-use Rattle.fp_certificate.proofs.NumbersBack.{large-back, no-word, number-back, time-back, within-back}
+use Rattle.fp_certificate.proofs.NumbersBack.{large-back, number-back, time-back, within-back}
+use Rattle.fp_certificate.proofs.PricesBack.{price-back}
 
 -- a line has no fault and takes one draft to another
 pub record IsStep (p : Problem) (before : Draft) (fields : List (List ℕ)) (after : Draft) : Type 0 where
@@ -303,79 +300,25 @@ split-step p before (split.ByWay shipment arc) v r open_still placed =
     let arc-is = arc-back p arc v r.1 in
     record { clean = rw (open_still, placed, shipment-is, arc-is) refl; gives = rw (shipment-is, arc-is) refl }
 
--- the kind of a leaf's prices as it is read
-abbrev kind_read : List ℕ → Kind
-kind_read word = if bytes_eq word (codes "linear") then price.Linear else if bytes_eq word (codes "even") then price.Even else price.Table (number word)
+-- the line of a leaf, and that of a narrowing
+leaf-step : (p : Problem) (before : Draft) (v : Valuation) → length before.certificate.tables < 10 ^ 64 → IsLeafInRange before.certificate.tables v
+    → has_ended before ≡ false → is_misplaced before section.Tree ≡ false → IsStep p before (leaf_fields v) (with_node before (node.Leaf v))
+leaf-step p before v few r open_still placed =
+    let back = price-back before MOST_SPLITS (codes "leaf") v.price v.sides (omega arith) few r.kind r.round r.sides placed in
+    record { clean = rw open_still back.clean; gives = rw (back.same_price, back.same_last) refl }
 
--- whether it is a word
-abbrev is_kind_word : List ℕ → Bool
-is_kind_word word = bytes_eq word (codes "linear") || bytes_eq word (codes "even")
+narrowing-step : (p : Problem) (before : Draft) (n : Narrowing) → length before.certificate.tables < 10 ^ 64 → IsNarrowingInRange before.certificate.tables n
+    → has_ended before ≡ false → is_misplaced before section.Tree ≡ false → IsStep p before (narrowing_fields n) (with_node before (node.Narrow n))
+narrowing-step p before n few r open_still placed =
+    let back = price-back before largest_figure (codes "narrow") n.price n.worth (omega arith) few r.kind r.round r.worth placed in
+    record { clean = rw open_still back.clean; gives = rw (back.same_price, back.same_last) refl }
 
-record IsKindBack (tables : List (List ClassShare)) (kind : Kind) : Type 0 where
-  is : (is_kind_word (kind_text kind) || is_number (kind_text kind)) ≡ true
-  within : (is_kind_word (kind_text kind) || is_within 1 (length tables) (kind_text kind)) ≡ true
-  same : kind_read (kind_text kind) ≡ kind
-
-kind-back : (tables : List (List ClassShare)) (kind : Kind) → length tables < 10 ^ 64 → HasKind tables kind → IsKindBack tables kind
-kind-back tables price.Linear few r = record { is = refl; within = refl; same = refl }
-kind-back tables price.Even few r = record { is = refl; within = refl; same = refl }
-kind-back tables (price.Table id) few r =
-    let back = number-back id (omega (arith, r.1)) in
-    let linear = no-word id (codes "linear") back refl in
-    let even = no-word id (codes "even") back refl in
-    record {
-      is = rw (linear, even, back.is) refl;
-      within = rw (linear, even, within-back 1 (length tables) id r.0 r.1 back) refl;
-      same = rw (linear, even, back.value) refl;
-    }
-
--- whether a leaf pays forced classes whole is a word, and the word tells it
-mode-is : (forced : Bool) → (bytes_eq (mode_text forced) (codes "plain") || bytes_eq (mode_text forced) (codes "forced")) ≡ true
-mode-is true = refl
-mode-is false = refl
-
-mode-same : (forced : Bool) → bytes_eq (mode_text forced) (codes "forced") ≡ forced
-mode-same true = refl
-mode-same false = refl
-
--- a leaf by its price and under how many of its sides it is valued
-abbrev valued : LeafPrice → Option ℕ → Valuation
-valued l sides = record { price = l; sides = sides }
-
-leaf-step : (p : Problem) (before : Draft) (l : LeafPrice) (sides : Option ℕ) → length before.certificate.tables < 10 ^ 64 → IsLeafInRange before.certificate.tables (valued l sides)
-    → has_ended before ≡ false → is_misplaced before section.Tree ≡ false → IsStep p before (leaf_fields (valued l sides)) (with_node before (node.Leaf (valued l sides)))
-leaf-step p before l None few r open_still placed =
-    let kind = kind-back before.certificate.tables l.kind few r.kind in
-    let back = time-back l.round (omega (arith, r.round)) in
-    record {
-      clean = rw (open_still, placed, kind.is, kind.within, mode-is l.forced, back.is, within-back 0 LAST_ROUND l.round (omega arith) r.round back) refl;
-      gives = rw (kind.same, mode-same l.forced, back.value) refl;
-    }
-leaf-step p before l (Some count) few r open_still placed =
-    let kind = kind-back before.certificate.tables l.kind few r.kind in
-    let back = time-back l.round (omega (arith, r.round)) in
-    let told = time-back count (omega (arith, r.sides)) in
-    record {
-      clean =
-          rw (
-            open_still,
-            placed,
-            kind.is,
-            kind.within,
-            mode-is l.forced,
-            back.is,
-            within-back 0 LAST_ROUND l.round (omega arith) r.round back,
-            told.is,
-            within-back 0 MOST_SPLITS count (omega arith) r.sides told,
-          ) refl;
-      gives = rw (kind.same, mode-same l.forced, back.value, told.value) refl;
-    }
-
--- a node
+-- a node, or a narrowing
 pub node-step : (p : Problem) (before : Draft) (n : Node) → IsValid p → length before.certificate.tables < 10 ^ 64 → IsNodeInRange p before.certificate.tables n
     → has_ended before ≡ false → is_misplaced before section.Tree ≡ false → IsStep p before (node_fields p n) (with_node before n)
 node-step p before (node.Branch s) v few r open_still placed = split-step p before s v r open_still placed
-node-step p before (node.Leaf l) v few r open_still placed = leaf-step p before l.price l.sides few r open_still placed
+node-step p before (node.Leaf valuation) v few r open_still placed = leaf-step p before valuation few r open_still placed
+node-step p before (node.Narrow narrowing) v few r open_still placed = narrowing-step p before narrowing few r open_still placed
 
 -- the end
 pub end-step : (p : Problem) (before : Draft) → has_ended before ≡ false → is_misplaced before section.End ≡ false → IsStep p before end_fields (with_end before)

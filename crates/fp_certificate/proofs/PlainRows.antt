@@ -1,6 +1,6 @@
 -- The written lines have plain fields alone.
 use Rattle.std.proofs.Common.{◌≡◌, ◌∙◌, ℕ, ◌+◌, ◌^◌, ◌-◌, ◌<◌, ◌≤◌, Bool, true, false, leb, List, [], ◌∷◌, ◌++◌, length, map, refl, arith}
-use Rattle.std.specs.Prelude.{Option, Some, None, All, ◌&&◌, ◌==◌, not, IfSome, slice_index_or}
+use Rattle.std.specs.Prelude.{Option, Some, None, All, ◌&&◌, ◌==◌, not, IfSome, codes, slice_index_or}
 use Rattle.std.specs.List.{AllByRecursion, flat_map, list_all}
 use Rattle.std.proofs.lemmas.Bool.{and_from, and_parts, ne_eqb}
 use Rattle.std.proofs.lemmas.List.Elements.{All-head, All-nil, All-tail, recursion_from_All}
@@ -34,8 +34,8 @@ use Rattle.fp_certificate_lines.specs.declared.certificates.Node.{Node}
 use Rattle.fp_certificate_lines.specs.declared.certificates.Node.TheVariants as node
 use Rattle.fp_certificate_lines.specs.declared.certificates.Spent.TheVariants as spent
 use Rattle.fp_certificate_lines.specs.Moments.{moments_of_table}
-use Rattle.fp_certificate_lines.specs.Ranges.{HaveNames, IsAnswerInRange, IsGiftInRange, IsGroupInRange, IsInRange, IsLegInRange, IsNodeInRange, IsPointInRange, IsScaleInRange, IsShareInRange, IsSpanInRange, IsTruckInRange, IsUnitInRange, IsWeightInRange}
-use Rattle.fp_certificate_lines.specs.Rows.{answer_fields, beside_rows, gift_fields, group_fields, head_name, kind_text, leg_fields, mode_text, leaf_fields, node_fields, point_fields, rows_of, scale_rows, share_fields, share_rows, shipment_name, side_text, span_fields, span_rows, table_fields, table_rows, tables_rows, tail_name, terminal_name, truck_fields, unit_rows, weight_fields}
+use Rattle.fp_certificate_lines.specs.Ranges.{HaveNames, IsAnswerInRange, IsGiftInRange, IsGroupInRange, IsInRange, IsLegInRange, IsNodeInRange, IsPointInRange, IsScaleInRange, IsShareInRange, IsSpanInRange, IsTruckInRange, IsUnitInRange, IsWeightInRange, largest_figure}
+use Rattle.fp_certificate_lines.specs.Rows.{answer_fields, beside_rows, gift_fields, group_fields, head_name, kind_text, leg_fields, mode_text, node_fields, point_fields, priced_fields, rows_of, scale_rows, share_fields, share_rows, shipment_name, side_text, span_fields, span_rows, table_fields, table_rows, tables_rows, tail_name, terminal_name, truck_fields, unit_rows, weight_fields}
 use Rattle.fp_certificate_lines.specs.Statements.{Statement}
 use Rattle.fp_model.proofs.Validity.{IsArc-valid}
 use Rattle.fp_certificate.proofs.NumbersBack.{large-back, number-back, time-back}
@@ -233,12 +233,13 @@ mode-plain : (forced : Bool) → is_plain_field (mode_text forced) ≡ true
 mode-plain true = refl
 mode-plain false = refl
 
--- a leaf by its price and under how many of its sides it is valued
-leaf-plain : (tables : List (List ClassShare)) (l : LeafPrice) (sides : Option ℕ) → length tables < 10 ^ 64 → HasKind tables l.kind → l.round ≤ LAST_ROUND → IfSome sides (λ count. count ≤ MOST_SPLITS)
-    → is_plain_record (leaf_fields (record { price = l; sides = sides })) ≡ true
-leaf-plain tables l None few kind round sides = rw (kind-plain tables l.kind few kind, (time-back l.round (omega (arith, round))).plain, mode-plain l.forced) refl
-leaf-plain tables l (Some count) few kind round sides =
-    rw (kind-plain tables l.kind few kind, (time-back l.round (omega (arith, round))).plain, mode-plain l.forced, (time-back count (omega (arith, sides))).plain) refl
+-- a leaf or a narrowing: a word, a price, and a number where there is one
+priced-plain : (tables : List (List ClassShare)) (most : ℕ) (word : List ℕ) (l : LeafPrice) (last : Option ℕ) → most ≤ largest_figure → is_plain_field word ≡ true
+    → length tables < 10 ^ 64 → HasKind tables l.kind → l.round ≤ LAST_ROUND → IfSome last (λ n. n ≤ most) → is_plain_record (priced_fields word l last) ≡ true
+priced-plain tables most word l None small plain few kind round fits =
+    rw (plain, kind-plain tables l.kind few kind, (time-back l.round (omega (arith, round))).plain, mode-plain l.forced) refl
+priced-plain tables most word l (Some n) small plain few kind round fits =
+    rw (plain, kind-plain tables l.kind few kind, (time-back l.round (omega (arith, round))).plain, mode-plain l.forced, (large-back n (omega (arith, fits, small))).plain) refl
 
 node-plain : (p : Problem) (tables : List (List ClassShare)) (n : Node) → IsValid p → HaveNames p → length tables < 10 ^ 64 → IsNodeInRange p tables n
     → is_plain_record (node_fields p n) ≡ true
@@ -256,7 +257,8 @@ node-plain p tables (node.Branch (split.ByTrucks arc point until most)) v named 
     ) refl
 node-plain p tables (node.Branch (split.ByWay shipment arc)) v named few r =
     rw (shipment-plain p shipment named r.0, tail-plain p arc v r.1, head-plain p arc v r.1) refl
-node-plain p tables (node.Leaf l) v named few r = leaf-plain tables l.price l.sides few r.kind r.round r.sides
+node-plain p tables (node.Leaf l) v named few r = priced-plain tables MOST_SPLITS (codes "leaf") l.price l.sides (omega arith) refl few r.kind r.round r.sides
+node-plain p tables (node.Narrow n) v named few r = priced-plain tables largest_figure (codes "narrow") n.price n.worth (omega arith) refl few r.kind r.round r.worth
 
 -- all lines of a certificate
 pub rows-plain : (p : Problem) (c : Statement) → IsValid p → HaveNames p → IsInRange p c → length c.tables < 2 ^ 32 - 1 → list_all is_plain_record (rows_of p c) ≡ true

@@ -13,10 +13,11 @@ use Rattle.fp_records_fields.specs.Findings.{first_code}
 use Rattle.fp_records_fields.specs.Fields.{has_number, is_between, number_at}
 use Rattle.fp_records_fields.proofs.Numerals.{is_between-limits}
 use Rattle.fp_records_fields.proofs.FaultTables.{IsClear-from_none}
+use Rattle.fp_tree.specs.declared.layout.TheConstants.{MOST_SPLITS}
 use Rattle.fp_certificate.specs.declared.drafts.Draft.{Draft}
 use Rattle.fp_certificate.specs.declared.lines.sections.Section.TheVariants as section
 use Rattle.fp_certificate.specs.declared.lines.kinds.LineKind.{LineKind}
-use Rattle.fp_certificate.specs.declared.lines.kinds.LineKind.TheVariants.{Direct, Optimal, Unfinished, Infeasible, Scale, Leg, Truck, Point, Table, Share, Span, ByArc, ByTime, ByTrucks, ByWay, Leaf, End}
+use Rattle.fp_certificate.specs.declared.lines.kinds.LineKind.TheVariants.{Direct, Optimal, Unfinished, Infeasible, Scale, Leg, Truck, Point, Table, Share, Span, ByArc, ByTime, ByTrucks, ByWay, Leaf, Narrow, End}
 use Rattle.fp_certificate.specs.declared.lines.kinds.LineKind.TheVariants as kind
 use Rattle.fp_certificate.specs.Answers.{has_bad_scale, has_time, has_time_in_range, has_unfinished_digits, is_figure}
 use Rattle.fp_certificate.specs.Gifts.{and_gift, gift_in, has_gift_digits}
@@ -29,12 +30,13 @@ use Rattle.fp_certificate.specs.Reading.{certificate_from, faults_of, kind_code,
 use Rattle.fp_certificate_lines.specs.Statements.{Statement}
 use Rattle.fp_certificate.specs.Tables.{and_share, and_span, moments_in, share_in, span_in, weight_in}
 use Rattle.fp_certificate.specs.Timetables.{ends_in_range, is_time, leg_in, truck_in}
-use Rattle.fp_certificate.specs.Trees.{by_trucks_in, has_kind_word, has_leaf_digits, has_leaf_ranges, has_sides_range, lacks_sides, leaf_in}
+use Rattle.fp_certificate.specs.Trees.{by_trucks_in, leaf_in, narrowing_in}
 use Rattle.fp_certificate.proofs.LineRanges.{in-time, small}
 use Rattle.fp_certificate.proofs.LinesOn.{at-end, first_fault-ok}
+use Rattle.fp_certificate.proofs.PriceRanges.{price-read}
 use Rattle.fp_certificate.proofs.TableCounts.{AreCounted, counted-more, line-fewer}
 use Rattle.fp_records_fields.proofs.NamedParts.{arc_in-lt, shipment_in-lt, terminal_in-lt}
-use Rattle.fp_certificate.proofs.RangedFields.{IsInRange-with_lists, IsInRange-with_node, end-range, group-ranged, kind-range, scale-range, sides-range, time-range, weight-ranged, with-answer, with-last-gifts, with-last-spans, with-last-table}
+use Rattle.fp_certificate.proofs.RangedFields.{IsInRange-with_lists, IsInRange-with_node, end-range, group-ranged, scale-range, time-range, weight-ranged, with-answer, with-last-gifts, with-last-spans, with-last-table, with-scales}
 
 -- a line of a kind without a fault gives what is in range
 kind-ranged : (p : Problem) (before : Draft) (kind : LineKind) (fields : List (List ℕ)) → first_code (faults_of p before kind fields) ≡ None
@@ -70,42 +72,14 @@ kind-ranged p before Scale fields h r =
     let digits = IsClear-from_none 23 (not (has_number fields 1)) count.later in
     let order = IsClear-from_none 24 _ digits.later in
     let range = IsClear-from_none 28 (has_bad_scale p fields) order.later in
-    record {
-      answer = r.answer;
-      scale = scale-range p fields range.here;
-      unit = r.unit;
-      legs = r.legs;
-      trucks = r.trucks;
-      points = r.points;
-      tables = r.tables;
-      spans = r.spans;
-      beside = r.beside;
-      gifts = r.gifts;
-      given = r.given;
-      timed = r.timed;
-      tree = r.tree;
-    }
+    with-scales p before.certificate (Some (number_at fields 1)) before.certificate.unit (scale-range p fields range.here) r.unit r
 kind-ranged p before kind.Unit fields h r =
     let count = IsClear-from_none 22 (not (length fields == 2)) h in
     let digits = IsClear-from_none 23 (not (has_number fields 1)) count.later in
     let order = IsClear-from_none 24 _ digits.later in
     let range = IsClear-from_none 28 (not (is_between 1 largest_figure fields 1)) order.later in
     let limits = is_between-limits 1 largest_figure fields 1 (not-false (is_between 1 largest_figure fields 1) range.here) in
-    record {
-      answer = r.answer;
-      scale = r.scale;
-      unit = record { least = limits.0; most = limits.1 };
-      legs = r.legs;
-      trucks = r.trucks;
-      points = r.points;
-      tables = r.tables;
-      spans = r.spans;
-      beside = r.beside;
-      gifts = r.gifts;
-      given = r.given;
-      timed = r.timed;
-      tree = r.tree;
-    }
+    with-scales p before.certificate before.certificate.scale (Some (number_at fields 1)) r.scale (record { least = limits.0; most = limits.1 }) r
 kind-ranged p before Leg fields h r =
     let count = IsClear-from_none 22 (not (length fields == 6)) h in
     let digits = IsClear-from_none 23 (not (has_number fields 4 && has_number fields 5)) count.later in
@@ -318,20 +292,11 @@ kind-ranged p before ByWay fields h r =
     let names = or_parts (lacks_shipment p fields 2) (lacks_arc p fields 3 4) name.here in
     IsInRange-with_node p before.certificate _ (shipment_in-lt p fields 2 names.0, arc_in-lt p fields 3 4 names.1) r
 kind-ranged p before Leaf fields h r =
-    let tables = before.certificate.tables in
-    let count = IsClear-from_none 22 (not (lacks_sides fields || length fields == 5)) h in
-    let digits = IsClear-from_none 23 (not (has_leaf_digits fields)) count.later in
-    let order = IsClear-from_none 24 (is_misplaced before section.Tree) digits.later in
-    let range = IsClear-from_none 28 (not (has_leaf_ranges (length tables) fields)) order.later in
-    let limits = and_parts ((has_kind_word fields || is_between 1 (length tables) fields 1) && is_between 0 LAST_ROUND fields 2) (has_sides_range fields)
-    (not-false (has_leaf_ranges (length tables) fields) range.here) in
-    let own = and_parts (has_kind_word fields || is_between 1 (length tables) fields 1) (is_between 0 LAST_ROUND fields 2) limits.0 in
-    let fits : IsNodeInRange p tables (leaf_in fields) = record {
-      kind = kind-range tables fields own.0;
-      round = (is_between-limits 0 LAST_ROUND fields 2 own.1).1;
-      sides = sides-range fields limits.1;
-    } in
-    IsInRange-with_node p before.certificate (leaf_in fields) fits r
+    let read = price-read before MOST_SPLITS fields h in
+    IsInRange-with_node p before.certificate (leaf_in fields) (record { kind = read.kind; round = read.round; sides = read.last }) r
+kind-ranged p before Narrow fields h r =
+    let read = price-read before largest_figure fields h in
+    IsInRange-with_node p before.certificate (narrowing_in fields) (record { kind = read.kind; round = read.round; worth = read.last }) r
 kind-ranged p before End fields h r = r
 
 maybe-ranged : (p : Problem) (before : Draft) (kind : Option LineKind) (fields : List (List ℕ)) → kind_code p before kind fields ≡ None

@@ -1,6 +1,6 @@
 -- What the fields of a line tell is in range.
 use Rattle.std.proofs.Common.{◌≡◌, ℕ, ◌+◌, ◌^◌, ◌<◌, ◌≤◌, Bool, true, false, List, [], ◌∷◌, ◌++◌, length, arith, inl, inr}
-use Rattle.std.specs.Prelude.{All, IfSome, ◌&&◌, ◌||◌, codes, nat_lt}
+use Rattle.std.specs.Prelude.{All, IfSome, Option, ◌&&◌, codes, nat_lt}
 use Rattle.std.proofs.lemmas.Bool.{and_parts, cases_Bool, ltb-true, not-false}
 use Rattle.std.proofs.lemmas.List.Elements.{All-push, All-weaker}
 use Rattle.fp_model.specs.declared.limits.TheConstants.{GREATEST_SCALE, LATEST, LONGEST_FASTEST}
@@ -14,18 +14,16 @@ use Rattle.fp_prices_spans.specs.Spans.{ClassSpan}
 use Rattle.fp_prices.specs.Tables.{HasKind}
 use Rattle.fp_records_fields.specs.Fields.{is_between, number_at, has_word}
 use Rattle.fp_records_fields.proofs.Numerals.{is_between-limits}
-use Rattle.fp_tree.specs.declared.layout.TheConstants.{MOST_SPLITS}
 use Rattle.fp_certificate_lines.specs.declared.certificates.Answer.{Answer}
 use Rattle.fp_certificate_lines.specs.declared.certificates.Node.{Node}
 use Rattle.fp_certificate_lines.specs.declared.certificates.Node.TheVariants.{Branch}
 use Rattle.fp_certificate_lines.specs.declared.certificates.Node.TheVariants as node
 use Rattle.fp_certificate.specs.declared.drafts.Draft.{Draft}
 use Rattle.fp_certificate.specs.Answers.{has_bad_scale, has_time_in_range, time_in}
-use Rattle.fp_certificate_lines.specs.Ranges.{IsAnswerInRange, IsGiftInRange, IsGroupInRange, IsInRange, IsNodeInRange, IsScaleInRange, IsShareInRange, IsSpanInRange, IsWeightInRange}
+use Rattle.fp_certificate_lines.specs.Ranges.{IsAnswerInRange, IsGiftInRange, IsGroupInRange, IsInRange, IsNodeInRange, IsScaleInRange, IsShareInRange, IsSpanInRange, IsUnitInRange, IsWeightInRange}
 use Rattle.fp_certificate_lines.specs.Statements.{Statement}
 use Rattle.fp_certificate.specs.Tables.{and_group, and_last_group, and_span_weight, and_weight, has_span, with_last, with_weight}
 use Rattle.fp_certificate.specs.Timetables.{ends_in_range}
-use Rattle.fp_certificate.specs.Trees.{has_kind_word, has_sides_range, kind_in, lacks_sides, sides_in}
 use Rattle.fp_certificate.proofs.LineRanges.{All-with_last}
 use Rattle.fp_certificate.proofs.TableCounts.{length-with_last}
 
@@ -35,6 +33,25 @@ with-answer p c a h r = record {
   answer = h;
   scale = r.scale;
   unit = r.unit;
+  legs = r.legs;
+  trucks = r.trucks;
+  points = r.points;
+  tables = r.tables;
+  spans = r.spans;
+  beside = r.beside;
+  gifts = r.gifts;
+  given = r.given;
+  timed = r.timed;
+  tree = r.tree;
+}
+
+-- with another scale and another unit
+pub with-scales : (p : Problem) (c : Statement) (scale unit : Option ℕ) → IfSome scale (IsScaleInRange p) → IfSome unit IsUnitInRange → IsInRange p c
+    → IsInRange p (record c { scale = scale; unit = unit })
+with-scales p c scale unit h g r = record {
+  answer = r.answer;
+  scale = h;
+  unit = g;
   legs = r.legs;
   trucks = r.trucks;
   points = r.points;
@@ -74,6 +91,7 @@ kind-grows few many (price.Table id) le h = (h.0, omega (arith, h.1))
 pub node-grows : (p : Problem) (few many : List (List ClassShare)) (n : Node) → length few ≤ length many → IsNodeInRange p few n → IsNodeInRange p many n
 node-grows p few many (Branch split) le h = h
 node-grows p few many (node.Leaf v) le h = record { kind = kind-grows few many v.price.kind le h.kind; round = h.round; sides = h.sides }
+node-grows p few many (node.Narrow n) le h = record { kind = kind-grows few many n.price.kind le h.kind; round = h.round; worth = h.worth }
 
 -- with other tables, and what stands beside them, no fewer than before
 pub IsInRange-with_lists : (p : Problem) (c : Statement) (tables : List (List ClassShare)) (spans : List (List ClassSpan)) (gifts : List (List Gift)) (moments : List Bool)
@@ -184,24 +202,3 @@ pub end-range : (fields : List (List ℕ)) (start place : ℕ) → ends_in_range
 end-range fields start place h =
     let limits = is_between-limits (number_at fields start + 1) (LATEST + 1) fields place h in
     (omega (arith, limits.0), limits.1)
-
--- the kind of a leaf's prices
-pub kind-range : (tables : List (List ClassShare)) (fields : List (List ℕ)) → (has_kind_word fields || is_between 1 (length tables) fields 1) ≡ true → HasKind tables (kind_in fields)
-kind-range tables fields h = elim (cases_Bool (has_word (codes "linear") fields 1)) [
-  | inl linear ↦ rw linear tt
-  | inr other ↦ elim (cases_Bool (has_word (codes "even") fields 1)) [
-    | inl even ↦ rw (other, even) tt
-    | inr table ↦
-        let limit : is_between 1 (length tables) fields 1 ≡ true = rw (other, table) at h in
-        rw (other, table) (is_between-limits 1 (length tables) fields 1 limit)
-  ]
-]
-
--- under how many of its sides it is valued
-pub sides-range : (fields : List (List ℕ)) → has_sides_range fields ≡ true → IfSome (sides_in fields) (λ count. count ≤ MOST_SPLITS)
-sides-range fields h = elim (cases_Bool (lacks_sides fields)) [
-  | inl lacks ↦ rw lacks tt
-  | inr told ↦
-      let limit : is_between 0 MOST_SPLITS fields 4 ≡ true = rw told at h in
-      rw told (is_between-limits 0 MOST_SPLITS fields 4 limit).1
-]

@@ -11,7 +11,7 @@ use Rattle.fp_prices_spans.specs.Spans.{ClassSpan}
 use Rattle.fp_records_fields.specs.Fields.{number_at}
 use Rattle.fp_certificate.specs.declared.drafts.Draft.{Draft}
 use Rattle.fp_certificate.specs.declared.lines.kinds.LineKind.{LineKind}
-use Rattle.fp_certificate.specs.declared.lines.kinds.LineKind.TheVariants.{Direct, Optimal, Unfinished, Infeasible, Scale, Leg, Truck, Point, Table, Share, Span, ByArc, ByTime, ByTrucks, ByWay, Leaf, End}
+use Rattle.fp_certificate.specs.declared.lines.kinds.LineKind.TheVariants.{Direct, Optimal, Unfinished, Infeasible, Scale, Leg, Truck, Point, Table, Share, Span, ByArc, ByTime, ByTrucks, ByWay, Leaf, Narrow, End}
 use Rattle.fp_certificate.specs.declared.lines.kinds.LineKind.TheVariants as kind
 use Rattle.fp_certificate.specs.Kinds.{kind_of}
 use Rattle.fp_certificate.specs.Reading.{with_kind, with_kind_of, with_line}
@@ -56,6 +56,7 @@ kind-count p before ByTime fields = omega arith
 kind-count p before ByTrucks fields = omega arith
 kind-count p before ByWay fields = omega arith
 kind-count p before Leaf fields = omega arith
+kind-count p before Narrow fields = omega arith
 kind-count p before End fields = omega arith
 
 maybe-count : (p : Problem) (before : Draft) (kind : Option LineKind) (fields : List (List ℕ)) → table_count (with_kind_of p before kind fields) ≤ table_count before + 1
@@ -158,6 +159,7 @@ kind-fewer p before n ByTime fields few = kept before n few
 kind-fewer p before n ByTrucks fields few = kept before n few
 kind-fewer p before n ByWay fields few = kept before n few
 kind-fewer p before n Leaf fields few = kept before n few
+kind-fewer p before n Narrow fields few = kept before n few
 kind-fewer p before n End fields few = kept before n few
 
 maybe-fewer : (p : Problem) (before : Draft) (n : ℕ) (kind : Option LineKind) (fields : List (List ℕ)) → AreCounted n before.certificate.tables before.certificate.spans

@@ -40,5 +40,6 @@ kind_of fields =
     else if is_kind (codes "gift") fields then Some kind.Gift
     else if is_kind (codes "split") fields then split_kind (field fields 1)
     else if is_kind (codes "leaf") fields then Some kind.Leaf
+    else if is_kind (codes "narrow") fields then Some kind.Narrow
     else if is_kind (codes "end") fields then Some kind.End
     else None

@@ -7,7 +7,7 @@ use Rattle.fp_records_fields.specs.Faults.{first_fault, Fault}
 use Rattle.fp_certificate_lines.specs.declared.certificates.Answer.TheVariants as answer
 use Rattle.fp_certificate.specs.declared.drafts.Draft.{Draft}
 use Rattle.fp_certificate.specs.declared.lines.kinds.LineKind.{LineKind}
-use Rattle.fp_certificate.specs.declared.lines.kinds.LineKind.TheVariants.{Direct, Optimal, Unfinished, Infeasible, Scale, Leg, Truck, Point, Table, Share, Span, Weight, Group, Gift, ByArc, ByTime, ByTrucks, ByWay, Leaf, End}
+use Rattle.fp_certificate.specs.declared.lines.kinds.LineKind.TheVariants.{Direct, Optimal, Unfinished, Infeasible, Scale, Leg, Truck, Point, Table, Share, Span, Weight, Group, Gift, ByArc, ByTime, ByTrucks, ByWay, Leaf, Narrow, End}
 use Rattle.fp_certificate.specs.declared.lines.kinds.LineKind.TheVariants as kind
 use Rattle.fp_certificate.specs.Answers.{cost_faults, infeasible_faults, infeasible_in, scale_faults, unfinished_faults, unfinished_in, unit_faults, with_answer, with_scale, with_unit}
 use Rattle.fp_certificate.specs.Gifts.{gift_faults, gift_in, with_gift}
@@ -17,7 +17,7 @@ use Rattle.fp_certificate.specs.Points.{point_faults, point_in, with_point}
 use Rattle.fp_certificate_lines.specs.Statements.{Statement}
 use Rattle.fp_certificate.specs.Tables.{group_faults, moments_in, share_faults, share_in, span_faults, span_in, table_faults, weight_faults, weight_in, with_group, with_share, with_span, with_table, with_weight}
 use Rattle.fp_certificate.specs.Timetables.{leg_faults, leg_in, truck_faults, truck_in, with_leg, with_truck}
-use Rattle.fp_certificate.specs.Trees.{by_arc_faults, by_arc_in, by_time_faults, by_time_in, by_trucks_faults, by_trucks_in, by_way_faults, by_way_in, end_faults, leaf_faults, leaf_in, with_end, with_node}
+use Rattle.fp_certificate.specs.Trees.{by_arc_faults, by_arc_in, by_time_faults, by_time_in, by_trucks_faults, by_trucks_in, by_way_faults, by_way_in, end_faults, leaf_faults, leaf_in, narrowing_faults, narrowing_in, with_end, with_node}
 
 -- nothing read yet; the answer stands for none
 abbrev pub nothing_read : Draft
@@ -48,6 +48,7 @@ faults_of p before ByTime fields = by_time_faults p before fields
 faults_of p before ByTrucks fields = by_trucks_faults p before fields
 faults_of p before ByWay fields = by_way_faults p before fields
 faults_of p before Leaf fields = leaf_faults before fields
+faults_of p before Narrow fields = narrowing_faults before fields
 faults_of p before End fields = end_faults before fields
 
 -- the code of the first fault of a line of a kind; a line of no kind has 21
@@ -81,6 +82,7 @@ with_kind p before ByTime fields = with_node before (by_time_in p fields)
 with_kind p before ByTrucks fields = with_node before (by_trucks_in p fields)
 with_kind p before ByWay fields = with_node before (by_way_in p fields)
 with_kind p before Leaf fields = with_node before (leaf_in fields)
+with_kind p before Narrow fields = with_node before (narrowing_in fields)
 with_kind p before End fields = with_end before
 
 -- the same where the line has a kind

@@ -13,7 +13,7 @@ mod open_tables;
 mod reading;
 
 pub use faults::CertFault;
-pub use fp_certificate_lines::{Answer, Certificate, Node, Spent, write};
+pub use fp_certificate_lines::{Answer, Certificate, Narrowing, Node, Spent, write};
 pub use laws::written_reads_back;
 pub use reading::{read, read_with_index};
 

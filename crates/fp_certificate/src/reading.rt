@@ -19,6 +19,7 @@ use crate::lines::groups::read_group;
 use crate::lines::kinds::{LineKind, kind_of};
 use crate::lines::leaves::read_leaf;
 use crate::lines::legs::read_leg;
+use crate::lines::narrowings::read_narrowing;
 use crate::lines::points::read_point;
 use crate::lines::scales::read_scale;
 use crate::lines::shares::read_share;
@@ -67,6 +68,7 @@ fn read_kind(
         LineKind::ByTrucks => read_by_trucks(lookup, draft, line),
         LineKind::ByWay => read_by_way(lookup, draft, line),
         LineKind::Leaf => read_leaf(draft, line),
+        LineKind::Narrow => read_narrowing(draft, line),
         LineKind::End => read_end(draft, line),
     }
 }

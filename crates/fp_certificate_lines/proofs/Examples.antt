@@ -10,7 +10,7 @@ use Rattle.fp_tree.specs.declared.sides.Side.TheVariants.{Only, Without}
 use Rattle.fp_certificate_lines.specs.declared.certificates.Answer.TheVariants.{Optimal}
 use Rattle.fp_certificate_lines.specs.declared.certificates.Node.TheVariants.{Leaf}
 use Rattle.fp_certificate_lines.specs.Moments.{by_moments}
-use Rattle.fp_certificate_lines.specs.Rows.{kind_text, leaf_fields, rows_of, split_fields, tables_rows}
+use Rattle.fp_certificate_lines.specs.Rows.{kind_text, leaf_fields, narrowing_fields, rows_of, split_fields, tables_rows}
 use Rattle.fp_certificate_lines.specs.Statements.{Statement}
 use Rattle.fp_certificate_lines.specs.Valuations.{sides_valued}
 
@@ -127,6 +127,17 @@ valued-first : leaf_fields (record { price = record { kind = Linear; round = 0; 
     ≡ codes "leaf" ∷ codes "linear" ∷ codes "0" ∷ codes "forced" ∷ codes "2" ∷ []
 unfolding digits
 valued-first = refl
+
+-- a narrowing names from which worth on it bars classes, or doesn't
+narrowed : narrowing_fields (record { price = record { kind = Table 3; round = 2; forced = false }; worth = None })
+    ≡ codes "narrow" ∷ codes "3" ∷ codes "2" ∷ codes "plain" ∷ []
+unfolding digits
+narrowed = refl
+
+narrowed-from : narrowing_fields (record { price = record { kind = Linear; round = 0; forced = true }; worth = Some 104 })
+    ≡ codes "narrow" ∷ codes "linear" ∷ codes "0" ∷ codes "forced" ∷ codes "104" ∷ []
+unfolding digits
+narrowed-from = refl
 
 -- the first of the sides on its way, and all of them where it has no more
 abbrev one_side : Side

@@ -4,4 +4,5 @@ mod RowTexts
 pub mod NoMoments
 pub mod Examples
 pub mod LineLengths
+mod PriceLengths
 pub mod TextLengths

@@ -1,4 +1,4 @@
--- How many bytes lines have: of fields, of some lines each of which is short.
+-- How many bytes lines have: of fields and numbers, of some lines each of which is short.
 use Rattle.std.proofs.Common.{◌≡◌, ℕ, ◌+◌, ◌*◌, ◌<◌, ◌≤◌, ◌^◌, List, [], ◌∷◌, ◌++◌, map, length, sym, ap, ◌∙◌, subst, arith}
 use Rattle.std.specs.Prelude.{All, decimal}
 use Rattle.std.specs.List.{AllByRecursion, flat_map}
@@ -7,7 +7,9 @@ use Rattle.std.proofs.lemmas.Grind.{flat_map-append}
 use Rattle.std.proofs.lemmas.List.{length-append}
 use Rattle.std.proofs.lemmas.List.Concat.{flat_map-cons}
 use Rattle.std.proofs.lemmas.List.Elements.{All-append, All-map, All-nil, All-weaker, recursion_from_All}
+use Rattle.fp_model.specs.declared.limits.TheConstants.{LAST_ROUND, LATEST}
 use Rattle.fp_records.specs.Text.{comma, joined, line_feed, line_of, lines_of}
+use Rattle.fp_certificate_lines.specs.Ranges.{largest_figure}
 
 -- the bytes of a line with these fields, each followed by a comma or by the line feed
 abbrev pub field_bytes : List (List ℕ) → ℕ
@@ -27,6 +29,23 @@ line-bytes f fields = omega (arith, length-append (joined (f ∷ fields)) line_f
 -- numbers with few digits
 pub digits-le : (k n : ℕ) → 0 < k → n < 10 ^ k → n < 10 ^ 64 → length (decimal n) ≤ k
 digits-le = length-decimal-le_wide
+
+-- a time, a round, a number of 32 bits, and a figure
+pub time-digits : (n : ℕ) → n ≤ LATEST + 1 → length (decimal n) ≤ 6
+time-digits n le = digits-le 6 n (omega arith) (omega (arith, le)) (omega (arith, le))
+
+pub round-digits : (n : ℕ) → n ≤ LAST_ROUND → length (decimal n) ≤ 4
+round-digits n le = digits-le 4 n (omega arith) (omega (arith, le)) (omega (arith, le))
+
+pub short-digits : (n : ℕ) → n < 2 ^ 32 → length (decimal n) ≤ 10
+short-digits n lt = digits-le 10 n (omega arith) (omega (arith, lt)) (omega (arith, lt))
+
+pub figure-digits : (n : ℕ) → n ≤ largest_figure → length (decimal n) ≤ 39
+figure-digits n le = digits-le 39 n (omega arith) (omega (arith, le)) (omega (arith, le))
+
+-- a length with a word's own
+pub word : (w : List ℕ) (n : ℕ) → length w ≡ n → length w ≤ n
+word w n is = omega (arith, is)
 
 -- a line has at most so many bytes
 abbrev pub IsShortRow : ℕ → List (List ℕ) → Type 0

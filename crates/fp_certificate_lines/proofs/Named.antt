@@ -11,7 +11,7 @@ use Rattle.fp_tree.specs.declared.sides.Split.TheVariants.{ByArc, ByTime, ByTruc
 use Rattle.fp_certificate_lines.specs.declared.certificates.Answer.{Answer}
 use Rattle.fp_certificate_lines.specs.declared.certificates.Answer.TheVariants.{Direct, Optimal, Unfinished, Infeasible}
 use Rattle.fp_certificate_lines.specs.declared.certificates.Node.{Node}
-use Rattle.fp_certificate_lines.specs.declared.certificates.Node.TheVariants.{Branch, Leaf}
+use Rattle.fp_certificate_lines.specs.declared.certificates.Node.TheVariants.{Branch, Leaf, Narrow}
 use Rattle.fp_certificate_lines.specs.Ranges.{AnswerExists, GiftExists, IsGiftInRange, IsAnswerInRange, IsInRange, IsLegInRange, IsNamed, IsNodeInRange, IsPointInRange, IsShareInRange, IsSpanInRange, IsSplitInRange, IsTruckInRange, IsWeightInRange, NodeExists, PointExists, ShareExists, SpanExists, SplitExists, WeightExists}
 use Rattle.fp_certificate_lines.specs.Statements.{Statement}
 
@@ -36,6 +36,7 @@ split-exists p (ByWay shipment arc) r = r
 node-exists : (p : Problem) (tables : List (List ClassShare)) (n : Node) → IsNodeInRange p tables n → NodeExists p n
 node-exists p tables (Branch split) r = split-exists p split r
 node-exists p tables (Leaf valuation) r = tt
+node-exists p tables (Narrow narrowing) r = tt
 
 -- a certificate in range can be written
 pub in-range-named : (p : Problem) (c : Statement) → IsInRange p c → IsNamed p c

@@ -1,20 +1,18 @@
 -- How many bytes the lines of a certificate have at most, and its text.
-use Rattle.std.proofs.Common.{◌≡◌, ℕ, zero, suc, ◌+◌, ◌*◌, ◌-◌, ◌<◌, ◌≤◌, ◌^◌, true, false, Bool, List, [], ◌∷◌, ◌++◌, map, length, refl, subst, arith}
+use Rattle.std.proofs.Common.{ℕ, zero, suc, ◌+◌, ◌*◌, ◌-◌, ◌<◌, ◌≤◌, ◌^◌, true, false, Bool, List, [], ◌∷◌, ◌++◌, map, length, refl, subst, arith}
 use Rattle.std.specs.Prelude.{All, IfSome, Option, Some, None, codes, decimal, slice_index_or, sum_by}
 use Rattle.std.specs.List.{AllByRecursion, flat_map}
 use Rattle.std.proofs.lemmas.List.{length-map}
 use Rattle.std.proofs.lemmas.List.Elements.{All-append, All-cons, All-nil, recursion_from_All}
 use Rattle.std.proofs.lemmas.List.Sums.{sum_by-cons}
-use Rattle.fp_model.specs.declared.limits.TheConstants.{LAST_ROUND, LATEST, LONGEST_FASTEST}
+use Rattle.fp_model.specs.declared.limits.TheConstants.{LONGEST_FASTEST}
 use Rattle.fp_model.specs.declared.parts.Shipment.{Shipment}
 use Rattle.fp_model.specs.Names.{IsName}
 use Rattle.fp_model.specs.Numbered.{no_shipment}
 use Rattle.fp_model.specs.Problem.{IsValid, Problem, arc_at}
-use Rattle.fp_prices.specs.declared.leaf_prices.Kind.{Kind}
-use Rattle.fp_prices.specs.declared.leaf_prices.Kind.TheVariants.{Even, Linear, Table}
 use Rattle.fp_prices.specs.declared.tables.Weight.{Weight}
 use Rattle.fp_prices.specs.Shares.{ClassShare}
-use Rattle.fp_prices.specs.Tables.{AreCountable, HasKind}
+use Rattle.fp_prices.specs.Tables.{AreCountable}
 use Rattle.fp_prices_gifts.specs.declared.gifts.Gift.{Gift}
 use Rattle.fp_prices_gifts.specs.GiftKinds.{gifts_of_table}
 use Rattle.fp_prices_spans.specs.SpanKinds.{spans_of_table}
@@ -23,34 +21,21 @@ use Rattle.fp_records.specs.Text.{line_of, lines_of}
 use Rattle.fp_timenodes.specs.declared.places.AddedPoint.{AddedPoint}
 use Rattle.fp_timetable.specs.declared.lines.LegLine.{LegLine}
 use Rattle.fp_timetable.specs.declared.lines.TruckLine.{TruckLine}
-use Rattle.fp_tree.specs.declared.layout.TheConstants.{MOST_SPLITS}
 use Rattle.fp_tree.specs.declared.sides.Split.{Split}
 use Rattle.fp_tree.specs.declared.sides.Split.TheVariants.{ByArc, ByTime, ByTrucks, ByWay}
 use Rattle.fp_certificate_lines.specs.declared.certificates.Answer.{Answer}
 use Rattle.fp_certificate_lines.specs.declared.certificates.Answer.TheVariants.{Direct, Optimal, Unfinished, Infeasible}
 use Rattle.fp_certificate_lines.specs.declared.certificates.Node.{Node}
-use Rattle.fp_certificate_lines.specs.declared.certificates.Node.TheVariants.{Branch, Leaf}
+use Rattle.fp_certificate_lines.specs.declared.certificates.Node.TheVariants.{Branch, Leaf, Narrow}
 use Rattle.fp_certificate_lines.specs.declared.certificates.Spent.{Spent}
 use Rattle.fp_certificate_lines.specs.declared.certificates.Spent.TheVariants.{Rounds, Branches, Time}
 use Rattle.fp_certificate_lines.specs.Lengths.{most_bytes, node_bytes, price_rows}
-use Rattle.fp_certificate_lines.specs.Ranges.{HaveNames, IsAnswerInRange, IsGiftInRange, IsGroupInRange, IsInRange, IsLegInRange, IsNodeInRange, IsPointInRange, IsScaleInRange, IsShareInRange, IsSpanInRange, IsSplitInRange, IsTruckInRange, IsUnitInRange, IsWeightInRange, largest_figure}
+use Rattle.fp_certificate_lines.specs.Ranges.{HaveNames, IsAnswerInRange, IsGiftInRange, IsGroupInRange, IsInRange, IsLegInRange, IsNodeInRange, IsPointInRange, IsScaleInRange, IsShareInRange, IsSpanInRange, IsSplitInRange, IsTruckInRange, IsUnitInRange, IsWeightInRange}
 use Rattle.fp_certificate_lines.specs.Moments.{moments_of_table}
-use Rattle.fp_certificate_lines.specs.Rows.{answer_fields, beside_rows, end_fields, gift_fields, group_fields, head_name, kind_text, leg_fields, mode_text, moments_fields, node_fields, point_fields, rows_of, scale_rows, share_fields, share_rows, shipment_name, side_text, sides_fields, span_fields, span_rows, spent_text, split_fields, table_fields, table_rows, tables_rows, tail_name, terminal_name, time_text, truck_fields, unit_rows, weight_fields}
+use Rattle.fp_certificate_lines.specs.Rows.{answer_fields, beside_rows, end_fields, gift_fields, group_fields, head_name, leg_fields, moments_fields, node_fields, point_fields, rows_of, scale_rows, share_fields, share_rows, shipment_name, side_text, span_fields, span_rows, spent_text, split_fields, table_fields, table_rows, tables_rows, tail_name, terminal_name, time_text, truck_fields, unit_rows, weight_fields}
 use Rattle.fp_certificate_lines.specs.Statements.{Statement}
-use Rattle.fp_certificate_lines.proofs.LineLengths.{All-flat_map, All-made, IsShortRow, digits-le, field_bytes, line-bytes, lines-append, lines-cons, rows-bytes}
-
--- a time, a round, a number of 32 bits, and a figure
-time-digits : (n : ℕ) → n ≤ LATEST + 1 → length (decimal n) ≤ 6
-time-digits n le = digits-le 6 n (omega arith) (omega (arith, le)) (omega (arith, le))
-
-round-digits : (n : ℕ) → n ≤ LAST_ROUND → length (decimal n) ≤ 4
-round-digits n le = digits-le 4 n (omega arith) (omega (arith, le)) (omega (arith, le))
-
-short-digits : (n : ℕ) → n < 2 ^ 32 → length (decimal n) ≤ 10
-short-digits n lt = digits-le 10 n (omega arith) (omega (arith, lt)) (omega (arith, lt))
-
-figure-digits : (n : ℕ) → n ≤ largest_figure → length (decimal n) ≤ 39
-figure-digits n le = digits-le 39 n (omega arith) (omega (arith, le)) (omega (arith, le))
+use Rattle.fp_certificate_lines.proofs.LineLengths.{All-flat_map, All-made, IsShortRow, digits-le, field_bytes, figure-digits, line-bytes, lines-append, lines-cons, round-digits, rows-bytes, short-digits, time-digits, word}
+use Rattle.fp_certificate_lines.proofs.PriceLengths.{leaf-bytes, narrowing-bytes}
 
 -- names have at most 32 bytes, and no bytes where there is none
 name-short : (names : List (List ℕ)) (k : ℕ) → AllByRecursion IsName names → length (slice_index_or names k []) ≤ 32
@@ -62,10 +47,6 @@ own-short : (shipments : List Shipment) (k : ℕ) → AllByRecursion (λ (s : Sh
 own-short [] k all = omega arith
 own-short (s ∷ shipments) zero all = omega (arith, all.0.few)
 own-short (s ∷ shipments) (suc k) all = own-short shipments k all.1
-
--- a length with a word's own
-word : (w : List ℕ) (n : ℕ) → length w ≡ n → length w ≤ n
-word w n is = omega (arith, is)
 
 -- what stands beside a table is in range, where all such lists are
 beside-range : {X : Type 0} (P : X → Type 0) (lists : List (List X)) (id : ℕ) → AllByRecursion (All P) lists → All P (slice_index_or lists id [])
@@ -230,7 +211,7 @@ module _ (p : Problem) (valid : IsValid p) (names : HaveNames p) where
       (beside-range (IsSpanInRange p) spans (id - 1) held) (beside-range (IsGiftInRange p) gifts (id - 1) given))
       (tables-each spans gifts moments held given (id + 1) tables (omega (arith, few)) all.1)
 
-  -- a split's line, and a leaf's
+  -- a split's line
   split-bytes : (s : Split) → IsSplitInRange p s → IsShortRow 109 (split_fields p s)
   split-bytes (ByArc shipment arc) r =
       omega (
@@ -275,31 +256,11 @@ module _ (p : Problem) (valid : IsValid p) (names : HaveNames p) where
         head-short arc,
       )
 
-  kind-short : (tables : List (List ClassShare)) (kind : Kind) → length tables < 2 ^ 32 → HasKind tables kind → length (kind_text kind) ≤ 10
-  kind-short tables Linear few has = omega (arith, word (codes "linear") 6 refl)
-  kind-short tables Even few has = omega (arith, word (codes "even") 4 refl)
-  kind-short tables (Table id) few has = short-digits id (omega (arith, few, has.1))
-
-  mode-short : (forced : Bool) → length (mode_text forced) ≤ 6
-  mode-short true = omega (arith, word (codes "forced") 6 refl)
-  mode-short false = omega (arith, word (codes "plain") 5 refl)
-
-  sides-short : (sides : Option ℕ) → IfSome sides (λ count. count ≤ MOST_SPLITS) → field_bytes (sides_fields sides) ≤ 7
-  sides-short None few = omega arith
-  sides-short (Some count) few = omega (arith, time-digits count (omega (arith, few)))
-
+  -- the line of a node, or of a narrowing
   node-bytes-le : (tables : List (List ClassShare)) (n : Node) → length tables < 2 ^ 32 → IsNodeInRange p tables n → length (line_of (node_fields p n)) ≤ node_bytes n
   node-bytes-le tables (Branch split) few r = split-bytes split r
-  node-bytes-le tables (Leaf v) few r =
-      omega (
-        arith,
-        line-bytes (codes "leaf") (kind_text v.price.kind ∷ decimal v.price.round ∷ mode_text v.price.forced ∷ sides_fields v.sides),
-        word (codes "leaf") 4 refl,
-        kind-short tables v.price.kind few r.kind,
-        round-digits v.price.round r.round,
-        mode-short v.price.forced,
-        sides-short v.sides r.sides,
-      )
+  node-bytes-le tables (Leaf valuation) few r = leaf-bytes tables valuation few r
+  node-bytes-le tables (Narrow narrowing) few r = narrowing-bytes tables narrowing few r
 
   nodes-bytes : (tables : List (List ClassShare)) (nodes : List Node) → length tables < 2 ^ 32 → AllByRecursion (IsNodeInRange p tables) nodes → length (lines_of (map (node_fields p) nodes)) ≤ sum_by node_bytes nodes
   nodes-bytes tables [] few all = omega arith

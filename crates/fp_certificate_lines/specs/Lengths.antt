@@ -4,15 +4,16 @@ use Rattle.fp_model.specs.Problem.{Problem}
 use Rattle.fp_prices.specs.Tables.{AreCountable}
 use Rattle.fp_records.specs.Text.{lines_of}
 use Rattle.fp_certificate_lines.specs.declared.certificates.Node.{Node}
-use Rattle.fp_certificate_lines.specs.declared.certificates.Node.TheVariants.{Branch, Leaf}
+use Rattle.fp_certificate_lines.specs.declared.certificates.Node.TheVariants.{Branch, Leaf, Narrow}
 use Rattle.fp_certificate_lines.specs.Ranges.{IsInRange}
 use Rattle.fp_certificate_lines.specs.Rows.{rows_of, tables_rows}
 use Rattle.fp_certificate_lines.specs.Statements.{Statement}
 
--- the most bytes of the line of a split, and of that of a leaf
+-- the most bytes of the line of a split, of that of a leaf, and of that of a narrowing
 abbrev pub node_bytes : Node → ℕ
 node_bytes (Branch split) = 109
 node_bytes (Leaf valuation) = 35
+node_bytes (Narrow narrowing) = 70
 
 -- the lines of tables, of their shares, of the spans beside them, of the weights of both, of the groups
 -- of spans, and of the gifts beside tables

@@ -18,8 +18,9 @@ use Rattle.fp_tree.specs.declared.sides.Split.{Split}
 use Rattle.fp_tree.specs.declared.sides.Split.TheVariants.{ByArc, ByTime, ByTrucks, ByWay}
 use Rattle.fp_certificate_lines.specs.declared.certificates.Answer.{Answer}
 use Rattle.fp_certificate_lines.specs.declared.certificates.Answer.TheVariants.{Direct, Optimal, Unfinished, Infeasible}
+use Rattle.fp_certificate_lines.specs.declared.certificates.Narrowing.{Narrowing}
 use Rattle.fp_certificate_lines.specs.declared.certificates.Node.{Node}
-use Rattle.fp_certificate_lines.specs.declared.certificates.Node.TheVariants.{Branch, Leaf}
+use Rattle.fp_certificate_lines.specs.declared.certificates.Node.TheVariants.{Branch, Leaf, Narrow}
 use Rattle.fp_certificate_lines.specs.declared.certificates.Valuation.{Valuation}
 use Rattle.fp_certificate_lines.specs.Statements.{Statement}
 
@@ -132,10 +133,18 @@ pub record IsLeafInRange (tables : List (List ClassShare)) (v : Valuation) : Typ
   pub round : v.price.round ≤ LAST_ROUND
   pub sides : IfSome v.sides (λ count. count ≤ MOST_SPLITS)
 
--- a node is in range beside these tables
+-- a narrowing's table exists, where it is by one, its round is at most 4,000, and the worth that it names is no larger
+-- than a field may be
+pub record IsNarrowingInRange (tables : List (List ClassShare)) (n : Narrowing) : Type 0 where
+  pub kind : HasKind tables n.price.kind
+  pub round : n.price.round ≤ LAST_ROUND
+  pub worth : IfSome n.worth (λ money. money ≤ largest_figure)
+
+-- a node, or a narrowing, is in range beside these tables
 abbrev pub IsNodeInRange : Problem → List (List ClassShare) → Node → Type 0
 IsNodeInRange p tables (Branch split) = IsSplitInRange p split
 IsNodeInRange p tables (Leaf valuation) = IsLeafInRange tables valuation
+IsNodeInRange p tables (Narrow narrowing) = IsNarrowingInRange tables narrowing
 
 -- all numbers are in range, all terminals, arcs, shipments and tables exist, and for each table there
 -- is a list of spans, one of gifts, and whether it is by moments
@@ -196,6 +205,7 @@ SplitExists p (ByWay shipment arc) = (shipment < length p.shipments) × (arc < l
 abbrev pub NodeExists : Problem → Node → Type 0
 NodeExists p (Branch split) = SplitExists p split
 NodeExists p (Leaf valuation) = Unit {0}
+NodeExists p (Narrow narrowing) = Unit {0}
 
 -- all terminals, arcs and shipments that a certificate's lines name exist
 pub record IsNamed (p : Problem) (c : Statement) : Type 0 where

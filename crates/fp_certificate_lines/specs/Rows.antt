@@ -7,6 +7,7 @@ use Rattle.fp_model.specs.Numbered.{shipment_at}
 use Rattle.fp_model.specs.Problem.{Problem, arc_at}
 use Rattle.fp_prices.specs.declared.leaf_prices.Kind.{Kind}
 use Rattle.fp_prices.specs.declared.leaf_prices.Kind.TheVariants.{Linear, Even, Table}
+use Rattle.fp_prices.specs.declared.leaf_prices.LeafPrice.{LeafPrice}
 use Rattle.fp_prices.specs.declared.tables.Weight.{Weight}
 use Rattle.fp_prices.specs.Shares.{ClassShare}
 use Rattle.fp_prices_gifts.specs.declared.gifts.Gift.{Gift}
@@ -20,8 +21,9 @@ use Rattle.fp_tree.specs.declared.sides.Split.{Split}
 use Rattle.fp_tree.specs.declared.sides.Split.TheVariants.{ByArc, ByTime, ByTrucks, ByWay}
 use Rattle.fp_certificate_lines.specs.declared.certificates.Answer.{Answer}
 use Rattle.fp_certificate_lines.specs.declared.certificates.Answer.TheVariants.{Direct, Optimal, Unfinished, Infeasible}
+use Rattle.fp_certificate_lines.specs.declared.certificates.Narrowing.{Narrowing}
 use Rattle.fp_certificate_lines.specs.declared.certificates.Node.{Node}
-use Rattle.fp_certificate_lines.specs.declared.certificates.Node.TheVariants.{Branch, Leaf}
+use Rattle.fp_certificate_lines.specs.declared.certificates.Node.TheVariants.{Branch, Leaf, Narrow}
 use Rattle.fp_certificate_lines.specs.declared.certificates.Spent.{Spent}
 use Rattle.fp_certificate_lines.specs.declared.certificates.Spent.TheVariants.{Rounds, Branches, Time}
 use Rattle.fp_certificate_lines.specs.declared.certificates.Valuation.{Valuation}
@@ -184,34 +186,43 @@ split_fields p (ByTrucks arc point until most) =
     codes "split" ∷ codes "trucks" ∷ tail_name p arc ∷ head_name p arc ∷ decimal point ∷ decimal until ∷ decimal most ∷ []
 split_fields p (ByWay shipment arc) = codes "split" ∷ codes "way" ∷ shipment_name p shipment ∷ tail_name p arc ∷ head_name p arc ∷ []
 
--- the kind of a leaf's prices: `linear`, `even` or the number of a table
+-- the kind of prices: `linear`, `even` or the number of a table
 abbrev pub kind_text : Kind → List ℕ
 kind_text Linear = codes "linear"
 kind_text Even = codes "even"
 kind_text (Table id) = decimal id
 
--- whether a leaf pays forced classes whole
+-- whether forced classes are paid whole
 abbrev pub mode_text : Bool → List ℕ
 mode_text forced = if forced then codes "forced" else codes "plain"
 
--- under how many of its sides a leaf is valued, where that isn't under all
-abbrev pub sides_fields : Option ℕ → List (List ℕ)
-sides_fields None = []
-sides_fields (Some count) = decimal count ∷ []
+-- the number at the end of a line, where there is one
+abbrev pub last_number_fields : Option ℕ → List (List ℕ)
+last_number_fields None = []
+last_number_fields (Some n) = decimal n ∷ []
 
 -- a line that has been begun, and this
-abbrev pub with_sides : Lines → Option ℕ → Lines
-with_sides line None = line
-with_sides line (Some count) = with_field line (decimal count)
+abbrev pub with_last_number : Lines → Option ℕ → Lines
+with_last_number line None = line
+with_last_number line (Some n) = with_field line (decimal n)
 
--- `leaf,KIND,ROUND,MODE` or `leaf,KIND,ROUND,MODE,SIDES`
+-- a word, a price, and a number where there is one
+abbrev pub priced_fields : List ℕ → LeafPrice → Option ℕ → List (List ℕ)
+priced_fields word price last = word ∷ kind_text price.kind ∷ decimal price.round ∷ mode_text price.forced ∷ last_number_fields last
+
+-- `leaf,KIND,ROUND,MODE`, and where a leaf isn't valued under all of its sides under how many it is
 abbrev pub leaf_fields : Valuation → List (List ℕ)
-leaf_fields v = codes "leaf" ∷ kind_text v.price.kind ∷ decimal v.price.round ∷ mode_text v.price.forced ∷ sides_fields v.sides
+leaf_fields v = priced_fields (codes "leaf") v.price v.sides
 
--- the line of a node
+-- `narrow,KIND,ROUND,MODE`, and from which worth on a narrowing bars classes, where it names one
+abbrev pub narrowing_fields : Narrowing → List (List ℕ)
+narrowing_fields n = priced_fields (codes "narrow") n.price n.worth
+
+-- the line of a node, or of a narrowing
 abbrev pub node_fields : Problem → Node → List (List ℕ)
 node_fields p (Branch split) = split_fields p split
 node_fields p (Leaf valuation) = leaf_fields valuation
+node_fields p (Narrow narrowing) = narrowing_fields narrowing
 
 -- `end`
 abbrev pub end_fields : List (List ℕ)

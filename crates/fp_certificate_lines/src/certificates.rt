@@ -55,13 +55,26 @@ pub struct Valuation {
     pub sides: Option<u32>,
 }
 
-/// A node of the tree of a search.
+/// A narrowing at a node: below the node a class is barred for a shipment where the node's value under the
+/// price, with the shipment made to go by the class, is worth what the certificate claims; or so much, where
+/// `worth` names more than that.
+#[derive(Clone, Copy, Debug, PartialEq, Eq)]
+pub struct Narrowing {
+    /// The price that it is by.
+    pub price: LeafPrice,
+    /// From which worth on classes are barred, where that is more than the claim; in the input's unit of money.
+    pub worth: Option<u128>,
+}
+
+/// A node of the tree of a search, or a narrowing at the node that follows.
 #[derive(Clone, Copy, Debug, PartialEq, Eq)]
 pub enum Node {
     /// A split. Its first side and then its second follow it.
     Branch { split: Split },
     /// A leaf, and how it is valued.
     Leaf { valuation: Valuation },
+    /// A narrowing at the next node that is none.
+    Narrow { narrowing: Narrowing },
 }
 
 /// An answer with all that tells why it is true. Contracts see a certificate as the record of these
@@ -94,7 +107,7 @@ pub struct Certificate {
     /// Whether leaves are priced by moments by each table, in the order of the tables: by the windows
     /// that their sides narrow, where only a span that is charged at the leaf has to pay.
     pub moments: Vec<bool>,
-    /// The tree of the search in preorder.
+    /// The tree of the search in preorder, with the narrowings at a node before it.
     pub tree: Vec<Node>,
 }
 

@@ -36,8 +36,8 @@ pub fn instances_are_named(instance: &Instance)
 ///
 /// The certificate is in range, and its tables can be counted in 32 bits. Then the text has at most
 /// 173 bytes, and 117 for each leg, 159 for each departure, 51 for each point, 165 for each line of
-/// its tables (of a table, a share, a span, a weight, a group or a gift), 109 for each split and 35 for
-/// each leaf. The call does nothing.
+/// its tables (of a table, a share, a span, a weight, a group or a gift), 109 for each split, 35 for
+/// each leaf and 70 for each narrowing. The call does nothing.
 pub fn texts_are_short(instance: &Instance)
     ensures { TextsAreShort instance.now }
 {

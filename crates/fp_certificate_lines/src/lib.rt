@@ -11,7 +11,7 @@ mod lines;
 mod moments;
 mod writing;
 
-pub use certificates::{Answer, Certificate, Node, Spent, Valuation};
+pub use certificates::{Answer, Certificate, Narrowing, Node, Spent, Valuation};
 pub use laws::{instances_are_named, largest_figure_is_a_number, texts_are_short};
 pub use limits::LARGEST_FIGURE;
 pub use lines::answers::write_answer;

@@ -44,8 +44,10 @@ fn write_end(line: &mut Line) -> Result<(), NoMemory>
 ///   and then by `group,MOMENT` for each moment at which a further group begins; and then by
 ///   `gift,FROM,TO,POINT,UNTIL,SIDE,AMOUNT` for each gift beside it, with `least` or `most`.
 /// - For each node of the tree `split,arc,SHIPMENT,FROM,TO`, `split,time,SHIPMENT,TERMINAL,AT`,
-///   `split,trucks,FROM,TO,POINT,UNTIL,N` or `leaf,KIND,ROUND,MODE`, with `linear`, `even` or a table's ID for the kind, and `plain` or
-///   `forced` for the mode.
+///   `split,trucks,FROM,TO,POINT,UNTIL,N`, `split,way,SHIPMENT,FROM,TO`, or `leaf,KIND,ROUND,MODE` or
+///   `leaf,KIND,ROUND,MODE,SIDES`, with `linear`, `even` or a table's ID for the kind, and `plain` or `forced`
+///   for the mode; and before a node `narrow,KIND,ROUND,MODE` or `narrow,KIND,ROUND,MODE,WORTH` for each
+///   narrowing at it.
 /// - `end`.
 ///
 /// The terminals, arcs and shipments of the certificate have to be the instance's. Fails only where

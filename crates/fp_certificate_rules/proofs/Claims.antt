@@ -1,18 +1,17 @@
 -- What an accepted certificate claims is true.
-use Rattle.std.proofs.Common.{◌≡◌, ℕ, zero, suc, ◌+◌, ◌*◌, ◌<◌, ◌≤◌, Bool, true, false, List, [], ◌∷◌, length, map, take, ⊎_elim, refl, sym, subst, arith}
+use Rattle.std.proofs.Common.{◌≡◌, ℕ, ◌+◌, ◌*◌, ◌<◌, ◌≤◌, Bool, true, false, List, [], ◌∷◌, ◌++◌, length, map, ⊎_elim, inl, inr, refl, sym, subst, arith}
 use Rattle.std.specs.Prelude.{Option, Some, None, slice_index_or}
 use Rattle.std.specs.Int.{div_ceil}
-use Rattle.std.specs.List.{AllByRecursion}
-use Rattle.fp_base_lists.specs.Numbered.{AllFrom}
-use Rattle.fp_base_lists.proofs.Elements.{AllByRecursion-weaker, AnyByRecursion-all}
+use Rattle.std.proofs.lemmas.Bool.{cases_lt}
+use Rattle.fp_base_lists.specs.Elements.{AnyByRecursion}
+use Rattle.fp_base_lists.proofs.Elements.{AllByRecursion-both, AnyByRecursion-all}
 use Rattle.fp_model.specs.declared.parts.Leg.{Leg}
 use Rattle.fp_model.specs.declared.parts.Shipment.{Shipment}
 use Rattle.fp_model.specs.Costs.{cost}
 use Rattle.fp_model.specs.Numbered.{no_shipment, shipment_at}
-use Rattle.fp_model.specs.Plans.{PlanExists}
+use Rattle.fp_model.specs.Plans.{IsPlan, PlanExists}
 use Rattle.fp_model.specs.Problem.{Problem, IsValid, arc_at}
 use Rattle.fp_model.specs.Routes.{Carries, arcs_of}
-use Rattle.fp_model.specs.TruckCounts.{trucks_between}
 use Rattle.fp_base_lists.proofs.Ceilings.{div_ceil-least}
 use Rattle.fp_base_lists.proofs.Numbered.{AllZip-get_or}
 use Rattle.fp_flatnet.specs.declared.window_tables.Window.{Window}
@@ -21,12 +20,12 @@ use Rattle.fp_flatnet.specs.Tables.{WindowTable, windows_in}
 use Rattle.fp_flatnet.specs.Windows.{AreWindows, CoverPlans}
 use Rattle.fp_flatnet.proofs.PlanExistence.{carried_time}
 use Rattle.fp_flatnet.proofs.PlansInWindows.{CoverPlans-from_windows}
-use Rattle.fp_allowed.specs.Allowed.{exit_of}
+use Rattle.fp_allowed.specs.Allowed.{PlanObeys}
 use Rattle.fp_tree.specs.declared.sides.Side.{Side}
 use Rattle.fp_tree.specs.declared.sides.Split.{Split}
 use Rattle.fp_tree.specs.declared.sides.Split.TheVariants.{ByArc, ByTime, ByTrucks, ByWay}
-use Rattle.fp_tree.specs.Sides.{Counts, Exit, HasCount, HasCounts, HasWay, HasWays, IsTailOfSplit, Meets, MeetsAll}
-use Rattle.fp_tree.specs.Trees.{HaveTails, Leaf, tree_leaves}
+use Rattle.fp_tree.specs.Sides.{IsTailOfSplit}
+use Rattle.fp_tree.specs.Trees.{HaveTails, Leaf}
 use Rattle.fp_prices.specs.declared.leaf_prices.Kind.{Kind}
 use Rattle.fp_prices.specs.declared.leaf_prices.LeafPrice.{LeafPrice}
 use Rattle.fp_prices.specs.Leaves.{IsPlanOfLeaf}
@@ -45,60 +44,26 @@ use Rattle.fp_certificate_lines.specs.declared.certificates.Answer.{Answer}
 use Rattle.fp_certificate_lines.specs.declared.certificates.Answer.TheVariants.{Direct, Optimal, Unfinished, Infeasible}
 use Rattle.fp_certificate_lines.specs.declared.certificates.Node.{Node}
 use Rattle.fp_certificate_lines.specs.declared.certificates.Node.TheVariants as node
-use Rattle.fp_certificate_lines.specs.declared.certificates.Valuation.{Valuation}
 use Rattle.fp_certificate_lines.specs.Moments.{by_moments}
 use Rattle.fp_certificate_lines.specs.Ranges.{IsAnswerInRange, IsInRange}
 use Rattle.fp_certificate_lines.specs.Statements.{Statement}
-use Rattle.fp_certificate_lines.specs.Valuations.{first_sides, sides_valued}
+use Rattle.fp_certificate_lines.specs.Valuations.{sides_valued}
 use Rattle.fp_certificate_rules.specs.Accepted.{Applies, IsAccepted, IsBlockedAs, IsTooLate, Part, claim_of}
 use Rattle.fp_certificate_rules.specs.Claims.{AcceptedClaims, Claims, ClaimsWithin, NoPlanWithinCheaper}
-use Rattle.fp_certificate_rules.specs.Leaves.{AreLeavesWorth, HasTree, IsLeafEmptyBy, IsLeafValueBy, IsLeafWorth, fork_of, split_tail}
+use Rattle.fp_certificate_rules.specs.Leaves.{AreLeavesWorth, AreNarrowedTrees, HasTree, IsLeafEmptyBy, IsLeafValueBy, IsLeafWorth, IsNarrowedLeafWorth, NarrowedLeaf, bare_nodes, fork_of, leaves_among, root_tree, split_tail}
 use Rattle.fp_certificate_rules.specs.Points.{points_as_of}
 use Rattle.fp_certificate_rules.specs.Units.{rounded_up}
+use Rattle.fp_certificate_rules.proofs.BareTrees.{AreOnWay, bare-leaves, bare-trees, bare_leaf, narrowed-on_way}
+use Rattle.fp_certificate_rules.proofs.BarredPlans.{leaf_bars-obeyed}
 use Rattle.fp_certificate_rules.proofs.FirstPoints.{initial-among}
 use Rattle.fp_certificate_rules.proofs.KeptPrices.{AreKept, AreKeptBeside, HasPrices-kept}
+use Rattle.fp_certificate_rules.proofs.PlanSides.{obeys-append, obeys-valued}
 use Rattle.fp_certificate_rules.proofs.UnitCosts.{rounded_up-cost}
 
--- what holds of all elements of a list holds of the first ones
-all-first : {X : Type 0} (P : X → Type 0) (count : ℕ) (xs : List X) → AllByRecursion P xs → AllByRecursion P (take count xs)
-all-first P zero xs all = tt
-all-first P (suc count) [] all = tt
-all-first P (suc count) (x ∷ xs) all = (all.0, all-first P count xs all.1)
-
--- whoever meets all sides meets the first ones
-meets-first : (d k : ℕ) (count : Option ℕ) (sides : List Side) (e : Exit) → MeetsAll d k sides e → MeetsAll d k (first_sides count sides) e
-meets-first d k None sides e meets = meets
-meets-first d k (Some count) sides e meets = all-first (Meets d k e) count sides meets
-
-obey-first : (p : Problem) (d k : ℕ) (count : Option ℕ) (sides : List Side) (routes : List (List Leg)) →
-    AllFrom (λ j r. AllByRecursion (λ (l : Leg). MeetsAll d j sides (exit_of p l)) r) k routes →
-    AllFrom (λ j r. AllByRecursion (λ (l : Leg). MeetsAll d j (first_sides count sides) (exit_of p l)) r) k routes
-obey-first p d k count sides [] obey = tt
-obey-first p d k count sides (r ∷ routes) obey = (
-  AllByRecursion-weaker (λ (l : Leg). MeetsAll d k sides (exit_of p l)) (λ (l : Leg). MeetsAll d k (first_sides count sides) (exit_of p l))
-      (λ l. meets-first d k count sides (exit_of p l)) r obey.0,
-  obey-first p d (k + 1) count sides routes obey.1,
-)
-
--- and whatever number of trucks all ask for, the first ones do
-count-first : (counts : Counts) (count : Option ℕ) (sides : List Side) → HasCounts counts sides → HasCounts counts (first_sides count sides)
-count-first counts None sides has = has
-count-first counts (Some count) sides has = all-first (HasCount counts) count sides has
-
--- and by whatever arcs all ask a shipment to go, the first ones do
-ways-first : (routes : List (List Exit)) (count : Option ℕ) (sides : List Side) → HasWays routes sides → HasWays routes (first_sides count sides)
-ways-first routes None sides has = has
-ways-first routes (Some count) sides has = all-first (HasWay routes) count sides has
-
--- so a plan of a leaf is one of the leaf of those sides under which it is valued
-of-first-sides : (p : Problem) (windows : ℕ → ℕ → Option Window) (d : ℕ) (plan : List (List Leg)) (v : Valuation) (sides : List Side) → IsPlanOfLeaf p windows sides d plan →
-    IsPlanOfLeaf p windows (sides_valued v sides) d plan
-of-first-sides p windows d plan v sides of_leaf = record {
-  denominator = of_leaf.denominator;
-  plan = of_leaf.plan;
-  within = of_leaf.within;
-  obeys = record { legs = obey-first p d 0 v.sides sides plan of_leaf.obeys.legs; trucks = count-first (trucks_between p d plan) v.sides sides of_leaf.obeys.trucks; ways = ways-first (map (map (exit_of p)) plan) v.sides sides of_leaf.obeys.ways };
-}
+-- a plan of a leaf that obeys bars is one of the leaf under these, also of those sides under which it is valued
+of-more-sides : (p : Problem) (windows : ℕ → ℕ → Option Window) (d : ℕ) (plan : List (List Leg)) (bars sides valued : List Side) → PlanObeys p d bars plan → PlanObeys p d valued plan → IsPlanOfLeaf p windows sides d plan →
+    IsPlanOfLeaf p windows (bars ++ valued) d plan
+of-more-sides p windows d plan bars sides valued barred obeys of_leaf = record { denominator = of_leaf.denominator; plan = of_leaf.plan; within = of_leaf.within; obeys = obeys-append p d bars valued plan barred obeys }
 
 -- a leaf that is empty has no plan: the classes of a plan's route are a walk by its heads and ways
 leaf_empty-none : (timed : Bool) (p : Problem) (windows : ℕ → ℕ → Option Window) (points : ℕ → List ℕ) (sides : List Side) (spans : List ClassSpan) → IsLeafEmptyBy timed p windows points sides spans → (d : ℕ) (plan : List (List Leg)) →
@@ -115,21 +80,25 @@ leaf_value-bounds false p windows first points sides tables spans gifts kind for
 leaf_value-bounds true p windows first points sides tables spans gifts kind forced value valid among rule keep leaf d plan of_leaf =
     moment_leaves-bound-plans.values p windows points sides tables spans gifts kind forced value valid rule keep.exist keep.ordered keep.money leaf d plan of_leaf
 
--- a plan of a leaf costs at least what the leaf is worth
-IsLeafWorth-cost : (p : Problem) (table : WindowTable) (c : Statement) (claim d : ℕ) (plan : List (List Leg)) (x : Node) (sides : List Side) → IsValid p → AreKept p table c →
-    IsPlanOfLeaf p (windows_in table) sides d plan → IsLeafWorth p table c claim x sides → claim ≤ cost p plan
-IsLeafWorth-cost p table c claim d plan (node.Branch split) sides valid keep of_leaf worth = absurd worth
-IsLeafWorth-cost p table c claim d plan (node.Leaf v) sides valid keep of_leaf worth =
+-- a plan of a leaf that obeys bars costs at least what the leaf is worth under these
+IsLeafWorth-cost : (p : Problem) (table : WindowTable) (c : Statement) (claim d : ℕ) (plan : List (List Leg)) (bars : List Side) (x : Node) (sides : List Side) → IsValid p → AreKept p table c →
+    IsPlanOfLeaf p (windows_in table) sides d plan → PlanObeys p d bars plan → IsLeafWorth p table c claim bars x sides → claim ≤ cost p plan
+IsLeafWorth-cost p table c claim d plan bars (node.Branch split) sides valid keep of_leaf barred worth = absurd worth
+IsLeafWorth-cost p table c claim d plan bars (node.Narrow narrowing) sides valid keep of_leaf barred worth = absurd worth
+IsLeafWorth-cost p table c claim d plan bars (node.Leaf v) sides valid keep of_leaf barred worth =
     let price : LeafPrice = v.price in
+    let windows : ℕ → ℕ → Option Window = windows_in table in
     let points : ℕ → List ℕ = points_as_of p table.anchors c price.round in
     let timed : Bool = by_moments c.moments price.kind in
     let spans : List ClassSpan = spans_beside c.spans price.kind in
     let gifts : List Gift = gifts_beside c.gifts price.kind in
+    let valued : List Side = bars ++ sides_valued v sides in
+    let under : (others : List Side) → PlanObeys p d others plan → IsPlanOfLeaf p windows (bars ++ others) d plan = λ others obeys. of-more-sides p windows d plan bars sides others barred obeys of_leaf in
     ⊎_elim
-    (λ (empty : IsLeafEmptyBy timed p (windows_in table) points sides spans). absurd (leaf_empty-none timed p (windows_in table) points sides spans empty d plan of_leaf))
-    (λ (leaf : (value : ℕ) × IsLeafValueBy timed p (windows_in table) points (sides_valued v sides) c.tables spans gifts price.kind price.forced value × (claim ≤ rounded_up c.unit (div_ceil value p.scale))).
-    let le : leaf.0 ≤ p.scale * cost p plan = leaf_value-bounds timed p (windows_in table) (initial_points p table.anchors) points (sides_valued v sides) c.tables spans gifts price.kind price.forced leaf.0 valid
-    (initial-among p table.anchors c.points price.round) keep.tables (keep.spans price.kind) leaf.1 d plan (of-first-sides p (windows_in table) d plan v sides of_leaf) in
+    (λ (empty : IsLeafEmptyBy timed p windows points (bars ++ sides) spans). absurd (leaf_empty-none timed p windows points (bars ++ sides) spans empty d plan (under sides of_leaf.obeys)))
+    (λ (leaf : (value : ℕ) × IsLeafValueBy timed p windows points valued c.tables spans gifts price.kind price.forced value × (claim ≤ rounded_up c.unit (div_ceil value p.scale))).
+    let le : leaf.0 ≤ p.scale * cost p plan = leaf_value-bounds timed p windows (initial_points p table.anchors) points valued c.tables spans gifts price.kind price.forced leaf.0 valid
+    (initial-among p table.anchors c.points price.round) keep.tables (keep.spans price.kind) leaf.1 d plan (under (sides_valued v sides) (obeys-valued p d v.sides sides plan of_leaf.obeys)) in
     let few : div_ceil leaf.0 p.scale ≤ cost p plan = div_ceil-least leaf.0 p.scale (cost p plan) (omega (arith, valid.scale.0)) (omega (arith, le)) in
     let rounded : rounded_up c.unit (div_ceil leaf.0 p.scale) ≤ cost p plan = rounded_up-cost p c.unit (div_ceil leaf.0 p.scale) plan keep.range keep.unit few in
     omega (arith, rounded, leaf.2))
@@ -150,16 +119,36 @@ HaveTails-fork_of : (p : Problem) (nodes : List Node) → HaveTails (tails p) (f
 HaveTails-fork_of p [] = tt
 HaveTails-fork_of p (node.Branch split ∷ nodes) = (IsTailOfSplit-split_tail p split, HaveTails-fork_of p nodes)
 HaveTails-fork_of p (node.Leaf valuation ∷ nodes) = (tt, HaveTails-fork_of p nodes)
+HaveTails-fork_of p (node.Narrow narrowing ∷ nodes) = (tt, HaveTails-fork_of p nodes)
 
--- where each leaf is worth the claim, no plan within the windows costs less
+-- what holds of some value of a function holds of a value of it at some element
+AnyByRecursion-from_map : {X Y : Type 0} (P : Y → Type 0) (f : X → Y) (xs : List X) → AnyByRecursion P (map f xs) → AnyByRecursion (λ x. P (f x)) xs
+AnyByRecursion-from_map P f [] any = any
+AnyByRecursion-from_map P f (x ∷ xs) any = ⊎_elim (λ (here : P (f x)). inl here) (λ (later : AnyByRecursion P (map f xs)). inr (AnyByRecursion-from_map P f xs later)) any
+
+-- some leaf with narrowings has sides that a plan obeys
+obeys-narrowed : (p : Problem) (nodes : List Node) (d : ℕ) (plan : List (List Leg)) → AreNarrowedTrees 1 nodes → IsValid p → IsPlan p d plan → AnyByRecursion (λ (l : NarrowedLeaf). PlanObeys p d l.sides plan) (leaves_among p nodes)
+obeys-narrowed p nodes d plan tree valid is =
+    AnyByRecursion-from_map (λ (l : Leaf Node). PlanObeys p d l.sides plan) bare_leaf (leaves_among p nodes)
+    (subst (λ (leaves : List (Leaf Node)). AnyByRecursion (λ (l : Leaf Node). PlanObeys p d l.sides plan) leaves) (sym (bare-leaves p (root_tree ∷ []) nodes))
+    (plan-obeys-leaf p (fork_of p) (bare_nodes nodes) d plan (HaveTails-fork_of p (bare_nodes nodes)) (bare-trees p 1 nodes tree) valid is))
+
+-- where each leaf is worth the claim, no plan within the windows costs less: one that does obeys the bars too
 pub AreLeavesWorth-NoPlanWithinCheaper : (p : Problem) (table : WindowTable) (c : Statement) (claim : ℕ) → IsValid p → AreKept p table c → HasTree p c → AreLeavesWorth p table c claim →
     NoPlanWithinCheaper p (windows_in table) claim
 AreLeavesWorth-NoPlanWithinCheaper p table c claim valid keep tree worth d plan some is within =
-    AnyByRecursion-all _ (λ (l : Leaf Node). IsLeafWorth p table c claim l.node l.sides) (claim ≤ cost p plan)
-    (λ l obeys here. IsLeafWorth-cost p table c claim d plan l.node l.sides valid keep (IsPlanOfLeaf-within p (windows_in table) l.sides d plan some is within obeys) here)
-    (tree_leaves (fork_of p) c.tree)
-    (plan-obeys-leaf p (fork_of p) c.tree d plan (HaveTails-fork_of p c.tree) tree.tree valid is)
-    worth
+    ⊎_elim
+    (λ (less : cost p plan < claim).
+    AnyByRecursion-all (λ (l : NarrowedLeaf). PlanObeys p d l.sides plan) (λ (l : NarrowedLeaf). IsNarrowedLeafWorth p table c claim l × AreOnWay l.sides l.narrowings) (claim ≤ cost p plan)
+    (λ l obeys both.
+    let here : IsNarrowedLeafWorth p table c claim l = both.0 in
+    IsLeafWorth-cost p table c claim d plan here.bars l.node l.sides valid keep (IsPlanOfLeaf-within p (windows_in table) l.sides d plan some is within obeys)
+    (leaf_bars-obeyed p table c claim d plan valid keep some is within less l.sides l.narrowings here.bars obeys both.1 here.are) here.worth)
+    (leaves_among p c.tree)
+    (obeys-narrowed p c.tree d plan tree.tree valid is)
+    (AllByRecursion-both (IsNarrowedLeafWorth p table c claim) (λ (l : NarrowedLeaf). AreOnWay l.sides l.narrowings) (leaves_among p c.tree) worth (narrowed-on_way p (root_tree ∷ []) c.tree (tt, tt))))
+    (λ (le : claim ≤ cost p plan). le)
+    (cases_lt (cost p plan) claim)
 
 -- a shipment that is too late isn't carried by any plan
 IsTooLate-Carries : (p : Problem) (s : Shipment) (time : Option ℕ) (d : ℕ) (legs : List Leg) → IsTooLate p s time → 1 ≤ d → Carries p d s legs → ⊥

@@ -5,6 +5,9 @@ pub mod UnitCosts
 pub mod KeptPrices
 pub mod FirstPoints
 pub mod GreatestUnits
+pub mod BareTrees
+pub mod PlanSides
+pub mod BarredPlans
 pub mod Claims
 pub mod LegCounts
 pub mod TreeCounts

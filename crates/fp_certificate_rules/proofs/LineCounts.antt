@@ -1,5 +1,5 @@
 -- An accepted certificate has few lines, and so few bytes beside those of its prices.
-use Rattle.std.proofs.Common.{◌≡◌, ◌+◌, ◌*◌, ◌<◌, ◌≤◌, [], ◌∷◌, length, refl, sym, subst, arith}
+use Rattle.std.proofs.Common.{◌≡◌, ◌+◌, ◌*◌, ◌<◌, ◌≤◌, List, [], ◌∷◌, length, refl, sym, ap, subst, arith}
 use Rattle.std.proofs.lemmas.List.Elements.{All-get_or, recursion_from_All}
 use Rattle.fp_base_lists.proofs.Elements.{AllByRecursion-weaker}
 use Rattle.fp_model.specs.Costs.{all_legs}
@@ -8,14 +8,16 @@ use Rattle.fp_flatnet.specs.Tables.{WindowTable, windows_in}
 use Rattle.fp_timetable.specs.declared.lines.LegLine.{LegLine}
 use Rattle.fp_certificate_lines.specs.declared.certificates.Answer.{Answer}
 use Rattle.fp_certificate_lines.specs.declared.certificates.Answer.TheVariants.{Direct, Infeasible, Optimal, Unfinished}
+use Rattle.fp_certificate_lines.specs.declared.certificates.Node.{Node}
 use Rattle.fp_certificate_lines.specs.Lengths.{most_bytes, price_rows}
 use Rattle.fp_certificate_lines.specs.Ranges.{IsInRange, IsLegInRange, IsPointInRange}
 use Rattle.fp_certificate_lines.specs.Statements.{Statement}
 use Rattle.fp_certificate_rules.specs.Accepted.{Applies, Holds, IsAccepted, Part}
-use Rattle.fp_certificate_rules.specs.Leaves.{HasTree}
+use Rattle.fp_certificate_rules.specs.Leaves.{HasTree, bare_nodes}
 use Rattle.fp_certificate_rules.specs.LineCounts.{AcceptedAreFew, HasFewLines}
 use Rattle.fp_certificate_rules.specs.Plans.{HasPlan, HasTrucks, routes_of}
 use Rattle.fp_certificate_rules.specs.Points.{HasPoints}
+use Rattle.fp_certificate_rules.proofs.BareTrees.{bare-splits, bare-trees}
 use Rattle.fp_certificate_rules.proofs.LegCounts.{departures-few, length-all_legs, plan-few}
 use Rattle.fp_certificate_rules.proofs.RoundCounts.{length-rounds}
 use Rattle.fp_certificate_rules.proofs.TreeCounts.{leaves-splits, tree-bytes}
@@ -35,7 +37,8 @@ module _ (p : Problem) (table : WindowTable) (c : Statement) (valid : IsValid p)
         trucks = omega (arith, same, departures-few p (routes_of p c) c.trucks trucks);
         points = length-rounds 4000 c.points points.few (λ k d lt. let r = All-get_or (IsPointInRange p) c.points k d lt range.points in (r.round.0, r.round.1));
         splits = tree.few;
-        leaves = leaves-splits p c.tree ([] ∷ []) tree.tree;
+        leaves = omega (arith, leaves-splits p (bare_nodes c.tree) ([] ∷ []) (bare-trees p 1 c.tree tree.tree), ap (λ (nodes : List Node). length nodes) (bare-splits p c.tree));
+        narrowings = tree.narrowings;
       }
 
   pub IsAccepted-few : Applies c.answer Part.Tree → HasFewLines p c
@@ -54,5 +57,5 @@ pub AcceptedAreFew_hold : AcceptedAreFew
 AcceptedAreFew_hold p table c valid range accepted applies = IsAccepted-few p table c valid range accepted applies
 
 -- so its text has at most so many bytes, and those of its prices
-pub few-bytes : (p : Problem) (c : Statement) → HasFewLines p c → HasTree p c → most_bytes p c ≤ 29694208 + 165 * length (price_rows p c)
-few-bytes p c few tree = omega (arith, few.legs, few.trucks, few.points, few.splits, tree-bytes p c.tree 1 tree.tree)
+pub few-bytes : (p : Problem) (c : Statement) → HasFewLines p c → HasTree p c → most_bytes p c ≤ 33194208 + 165 * length (price_rows p c)
+few-bytes p c few tree = omega (arith, few.legs, few.trucks, few.points, few.splits, few.narrowings, tree-bytes p c.tree 1 tree.tree)

@@ -1,5 +1,5 @@
 -- Numbers that divide what each plan costs, and amounts rounded up by them.
-use Rattle.std.specs.Prelude.{ℕ, ◌*◌, ◌%◌, ◌≡◌, All, Option, Some, None}
+use Rattle.std.specs.Prelude.{ℕ, ◌*◌, ◌%◌, ◌≡◌, ◌≤◌, ◌↔◌, All, Option, Some, None}
 use Rattle.std.specs.Int.{div_ceil}
 use Rattle.fp_model.specs.declared.parts.Arc.{Arc}
 use Rattle.fp_model.specs.declared.parts.Shipment.{Shipment}
@@ -26,3 +26,7 @@ pub record IsGreatestUnit (p : Problem) (unit : ℕ) : Type 0 where
 abbrev pub rounded_up : Option ℕ → ℕ → ℕ
 rounded_up None amount = amount
 rounded_up (Some unit) amount = div_ceil amount unit * unit
+
+-- the least amount of money that is worth a claim, where amounts are rounded up
+abbrev pub IsLeastAmount : Option ℕ → (claim money : ℕ) → Type 0
+IsLeastAmount unit claim money = (amount : ℕ) → (money ≤ amount) ↔ (claim ≤ rounded_up unit amount)

@@ -3,7 +3,7 @@ ghost use Rattle.std.specs.Prelude.{◌≡◌};
 ghost use Rattle.fp_certificate_rules.specs.Claims.{AcceptedClaims};
 ghost use Rattle.fp_certificate_rules.specs.LineCounts.{AcceptedAreFew};
 
-use crate::limits::MOST_IN_ROUND;
+use crate::limits::{MOST_IN_ROUND, MOST_NARROWINGS};
 
 /// What an accepted certificate claims is true: of all plans that lie within the windows,
 /// whatever these are, and of all plans where the windows are the instance's own.
@@ -17,8 +17,9 @@ pub fn accepted_claims()
 /// An accepted certificate in range whose answer rests on a tree has few lines of each kind, for each
 /// valid instance.
 ///
-/// It has at most 99 legs for each of at most 500 shipments, no more departures than legs, at most 8
-/// points for each of 4,000 rounds, at most 100,000 splits, and one leaf more than splits.
+/// It has at most 99 legs for each of at most 500 shipments, no more departures than legs, at most
+/// 8 points for each of 4,000 rounds, at most 100,000 splits, one leaf more than splits, and at most
+/// 50,000 narrowings.
 pub fn accepted_are_few()
     ensures { AcceptedAreFew }
 {}
@@ -26,4 +27,9 @@ pub fn accepted_are_few()
 /// The most points that one round may add are this number.
 pub fn round_limit_is_a_number()
     ensures { MOST_IN_ROUND ≡ 8 }
+{}
+
+/// The most narrowings that a certificate may have are this number.
+pub fn narrowing_limit_is_a_number()
+    ensures { MOST_NARROWINGS ≡ 50000 }
 {}

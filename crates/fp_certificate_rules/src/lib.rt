@@ -8,6 +8,8 @@ mod laws;
 mod limits;
 mod units;
 
-pub use laws::{accepted_are_few, accepted_claims, round_limit_is_a_number};
-pub use limits::MOST_IN_ROUND;
-pub use units::{is_unit, reaches, rounded_below, unit_of};
+pub use laws::{
+    accepted_are_few, accepted_claims, narrowing_limit_is_a_number, round_limit_is_a_number,
+};
+pub use limits::{MOST_IN_ROUND, MOST_NARROWINGS};
+pub use units::{is_unit, least_amount, reaches, rounded_below, unit_of};

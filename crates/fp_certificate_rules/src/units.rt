@@ -3,7 +3,7 @@ ghost use Rattle.std.specs.Prelude.{ℕ, ◌≡◌, ◌*◌, ◌%◌, ◌<◌, �
 ghost use Rattle.fp_model.specs.declared.parts.Shipment.{Shipment as ShipmentParts};
 ghost use Rattle.fp_model.specs.Problem.{IsValid};
 ghost use Rattle.fp_certificate_lines.specs.Ranges.{IsUnitInRange};
-ghost use Rattle.fp_certificate_rules.specs.Units.{IsGreatestUnit, IsUnit, rounded_up};
+ghost use Rattle.fp_certificate_rules.specs.Units.{IsGreatestUnit, IsLeastAmount, IsUnit, rounded_up};
 
 use fp_model::{Arc, Instance, Shipment};
 use fp_prices_knapsack::greatest_common_divisor;
@@ -101,5 +101,18 @@ pub fn rounded_below(amount: u128, unit: Option<u128>, ceiling: u128) -> Option<
     match unit {
         Some(unit) => Some(amount.div_ceil(unit) * unit),
         None => Some(amount),
+    }
+}
+
+/// The least amount that is at least a claim, where amounts are rounded up to a multiple of the
+/// unit, if there is one: then it is 1 more than the greatest multiple of the unit below the claim,
+/// or 0 where the claim is. Units are at least 1. Takes no memory.
+pub fn least_amount(unit: Option<u128>, claim: u128) -> u128
+    requires { IfSome unit (λ u. 1 ≤ u) }
+    ensures { IsLeastAmount unit claim result }
+{
+    match unit {
+        Some(unit) if claim > 0 => (claim - 1) / unit * unit + 1,
+        _ => claim,
     }
 }

@@ -24,7 +24,7 @@ use Rattle.fp_prices_spans.proofs.SameSpanValues.{span_bound-same, span_value-sa
 use Rattle.fp_prices_spans.proofs.SpanlessValues.{spanless-values}
 
 -- where runs end at points, they end at the same points in other lists
-ends-same : (p : Problem) (points others : ℕ → List ℕ) (gifts : List Gift) → IsValid p → AgreeOnPoints p points others → AllByRecursion (λ (gift : Gift). gift.arc < length p.arcs) gifts →
+pub ends-same : (p : Problem) (points others : ℕ → List ℕ) (gifts : List Gift) → IsValid p → AgreeOnPoints p points others → AllByRecursion (λ (gift : Gift). gift.arc < length p.arcs) gifts →
     AllByRecursion (EndsAtPoints p points) gifts → AllByRecursion (EndsAtPoints p others) gifts
 ends-same p points others [] valid same exist ends = tt
 ends-same p points others (gift ∷ gifts) valid same exist ends =

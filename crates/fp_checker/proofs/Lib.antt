@@ -15,5 +15,11 @@ pub mod NarrowSides
 pub mod LeafWays
 pub mod SameSides
 pub mod SameMoments
+pub mod SameBars
+pub mod SamePointBars
+pub mod BarLists
 pub mod LeavesBy
+pub mod NarrowedLeaves
+pub mod NarrowedWays
 pub mod LeafBounds
+pub mod NarrowingBars

@@ -36,7 +36,7 @@ module _ (p : Problem) (valid : IsValid p) (sides : List Side) (points others : 
   each-same windows allowed chains (span ∷ spans) of pay =
       ((λ charged. charge-same p windows points others span valid same of.0 (pay.0 charged)), each-same windows allowed chains spans of.1 pay.1)
 
-  charged-same : (windows : ℕ → ℕ → Option Window) (chains : List (List Leg)) (spans : List ClassSpan) → All (IsSpanOf p) spans → ChargedPay p windows points (is_allowed p windows points sides) chains spans →
+  pub charged-same : (windows : ℕ → ℕ → Option Window) (chains : List (List Leg)) (spans : List ClassSpan) → All (IsSpanOf p) spans → ChargedPay p windows points (is_allowed p windows points sides) chains spans →
       ChargedPay p windows others (is_allowed p windows others sides) chains spans
   charged-same windows chains spans of pay =
       subst (λ (allowed : ℕ → Leg → Bool). ChargedPay p windows others allowed chains spans) (is_allowed_same p valid points others same windows sides)

@@ -47,7 +47,7 @@ module _ (p : Problem) (windows : ℕ → ℕ → Option Window) where
   }
 
   module _ (sides others : List Side) (alike : AskAlike sides others) where
-    rows-alike : (rows : List (List (Option Window))) → AreWindowRowsUnder p windows sides rows → AreWindowRowsUnder p windows others rows
+    pub rows-alike : (rows : List (List (Option Window))) → AreWindowRowsUnder p windows sides rows → AreWindowRowsUnder p windows others rows
     rows-alike rows are = record {
       one_each = are.one_each;
       exact = λ k lt. record {

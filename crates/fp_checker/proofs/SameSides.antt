@@ -48,7 +48,7 @@ module _ (p : Problem) (windows : ℕ → ℕ → Option Window) (points : ℕ �
   ways-alike [] k = refl
   ways-alike (span ∷ spans) k = ap (λ (ways : List ℕ). if ways_fit p then take MOST_WAYS ways else []) (alike.ways k)
 
-  all_ways-alike : (spans : List ClassSpan) → leaf_ways p sides spans ≡ leaf_ways p others spans
+  pub all_ways-alike : (spans : List ClassSpan) → leaf_ways p sides spans ≡ leaf_ways p others spans
   all_ways-alike spans = λ i k. ways-alike spans k i
 
   -- so a leaf is empty alike
@@ -76,7 +76,7 @@ module _ (p : Problem) (windows : ℕ → ℕ → Option Window) (points : ℕ �
   }
 
   -- the gifts are for as many trucks
-  numbers-alike : (gifts : List Gift) (numbers : List ℕ) → AllZip (λ gift n. gift_number sides gift ≡ Some n) gifts numbers → AllZip (λ gift n. gift_number others gift ≡ Some n) gifts numbers
+  pub numbers-alike : (gifts : List Gift) (numbers : List ℕ) → AllZip (λ gift n. gift_number sides gift ≡ Some n) gifts numbers → AllZip (λ gift n. gift_number others gift ≡ Some n) gifts numbers
   numbers-alike [] [] are = tt
   numbers-alike [] (n ∷ numbers) are = absurd are
   numbers-alike (gift ∷ gifts) [] are = absurd are

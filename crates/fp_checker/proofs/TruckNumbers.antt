@@ -70,3 +70,9 @@ number-set (x ∷ sides) zero side d gift lt no_better = set-here gift.least (nu
 number-set (x ∷ sides) (suc i) side d gift lt no_better =
     ap (better gift.least (number_by gift x)) (number-set sides i side d gift (omega (arith, lt)) no_better)
     ∙ better-last gift.least (number_by gift x) (gift_number sides gift) (number_by gift side)
+
+-- sides behind others
+pub number-append : (sides more : List Side) (gift : Gift) → gift_number (sides ++ more) gift ≡ better gift.least (gift_number sides gift) (gift_number more gift)
+number-append [] more gift = refl
+number-append (x ∷ sides) more gift =
+    ap (better gift.least (number_by gift x)) (number-append sides more gift) ∙ better-last gift.least (number_by gift x) (gift_number sides gift) (gift_number more gift)

@@ -3,3 +3,4 @@ pub mod Lines
 pub mod Bounds
 pub mod Rejections
 pub mod LeafWays
+pub mod NarrowedWays

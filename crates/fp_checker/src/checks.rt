@@ -21,8 +21,9 @@ use crate::rules::fastest_times::is_too_late;
 use crate::rules::leaves::are_leaves_worth;
 use crate::rules::plans::told_plan;
 use crate::rules::prices::has_prices;
-use crate::rules::trees::{is_tree, split_count};
+use crate::rules::trees::{is_tree, narrowing_count, split_count};
 use fp_certificate_lines::{Answer, Certificate};
+use fp_certificate_rules::MOST_NARROWINGS;
 use fp_flatnet::Windows;
 use fp_model::{Instance, Plan};
 use fp_timetable::{plan_cost, trucks};
@@ -77,6 +78,9 @@ fn test_bound(alloc: Global, case: &Case<'_>) -> Result<(), Rejected>
     }
     let nodes = certificate.tree.as_slice();
     if !is_tree(nodes) || split_count(nodes) > MOST_SPLITS as usize {
+        return Err(Rejected::Part { number: TREE });
+    }
+    if narrowing_count(nodes) > MOST_NARROWINGS {
         return Err(Rejected::Part { number: TREE });
     }
     if !are_leaves_worth(alloc, case, &points)? {
@@ -144,8 +148,8 @@ fn test_parts(alloc: Global, case: &Case<'_>) -> Result<(), Rejected>
 ///
 /// The instance has the scale of prices under which the certificate was made. The certificate's
 /// numbers are in range, as those of one that was read, and there are fewer than `2^32 - 1` tables,
-/// and shares and spans of each. Takes time that grows with its lines, but for the leaves, each of which is
-/// bounded anew. `NoMemory` only where no memory is found.
+/// and shares and spans of each. Takes time that grows with its lines, but for the leaves and the
+/// narrowings, each of which is valued anew. `NoMemory` only where no memory is found.
 pub fn check(
     alloc: Global,
     instance: &Instance,

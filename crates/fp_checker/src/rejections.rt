@@ -16,8 +16,10 @@ pub enum Rejected {
     /// - 5: the shares and their weights are in order and keep the price rule; the spans beside
     ///   each table, with their weights and groups, are in order, keep the money rule, and their
     ///   charges pay by the windows and the initial points; and the unit divides what plans cost.
-    /// - 6: the nodes are one tree of at most 100,000 splits.
-    /// - 7: no leaf is worth less than the claim.
+    /// - 6: the nodes are one tree of at most 100,000 splits, with at most 50,000 narrowings before
+    ///   them.
+    /// - 7: no leaf is worth less than the claim, under the bars of the narrowings on its way and at
+    ///   itself.
     /// - 8: the named shipment can't arrive in time, and its fastest time is as told.
     ///
     /// 1 to 3 apply to a direct answer, 1 to 7 to an optimal and an unfinished one, 8 to an

@@ -11,4 +11,7 @@ pub mod SmallWalks
 pub mod CopiedWalks
 pub mod LayeredEdges
 pub mod LayeredWalks
+pub mod ReversedWalks
+pub mod SplitWalks
+pub mod ThroughCosts
 pub mod Examples

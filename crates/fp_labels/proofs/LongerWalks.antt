@@ -1,20 +1,19 @@
--- Walks with one more edge at their end.
-use Rattle.std.proofs.Common.{◌≡◌, ◌≢◌, ℕ, ◌+◌, ◌<◌, List, [], ◌∷◌, ◌++◌, Option, Some, length, refl, sym, ap, ◌∙◌, subst, arith}
+-- Walks with one more edge at their end, or with another walk after them.
+use Rattle.std.proofs.Common.{◌≡◌, ℕ, ◌+◌, ◌<◌, List, [], ◌∷◌, ◌++◌, Option, Some, length, refl, sym, ap, ◌∙◌, subst, arith}
 use Rattle.std.specs.Prelude.{IsSome, unwrap_or}
-use Rattle.std.specs.List.{AllByRecursion}
 use Rattle.std.proofs.lemmas.List.{map_push}
 use Rattle.std.proofs.lemmas.List.Sums.{sum_by_push}
 use Rattle.fp_base_lists.proofs.Elements.{AllByRecursion-push}
 use Rattle.fp_labels.specs.declared.graphs.Edge.{Edge}
 use Rattle.fp_labels.specs.Graphs.{edge_at}
 use Rattle.fp_labels.specs.Walks.{Leads, cost_of, nodes_on, IsWalk}
-use Rattle.fp_base_lists.specs.Distinct.{AreDistinct}
 
 -- the nodes on a walk with one more edge
 pub nodes_push : (edges : List Edge) (here : ℕ) (walk : List ℕ) (e : ℕ) → nodes_on edges here (walk ++ (e ∷ [])) ≡ nodes_on edges here walk ++ ((edge_at edges e).to ∷ [])
 nodes_push edges here walk e = ap (λ (xs : List ℕ). here ∷ xs) (map_push (λ n. (edge_at edges n).to) walk e)
 
-leads_push : (edges : List Edge) (here : ℕ) (walk : List ℕ) (there e : ℕ) → Leads edges here walk there → e < length edges → (edge_at edges e).from ≡ there → Leads edges here (walk ++ (e ∷ [])) (edge_at edges e).to
+-- a walk with one more edge leads to its head
+pub leads_push : (edges : List Edge) (here : ℕ) (walk : List ℕ) (there e : ℕ) → Leads edges here walk there → e < length edges → (edge_at edges e).from ≡ there → Leads edges here (walk ++ (e ∷ [])) (edge_at edges e).to
 leads_push edges here [] there e leads inside from_is = (inside, from_is ∙ sym leads, refl)
 leads_push edges here (a ∷ walk) there e leads inside from_is = (leads.0, leads.1, leads_push edges (edge_at edges a).to walk there e leads.2 inside from_is)
 
@@ -30,3 +29,9 @@ walk_push edges costs here there walk cost e more is inside from_is unbarred = r
       let before = is.costs_so in
       omega arith);
 }
+
+-- two walks, one after the other
+pub leads-append : (edges : List Edge) (here : ℕ) (walk : List ℕ) (middle : ℕ) (more : List ℕ) (there : ℕ) → Leads edges here walk middle → Leads edges middle more there → Leads edges here (walk ++ more) there
+leads-append edges here [] middle more there leads later = subst (λ (n : ℕ). Leads edges n more there) (sym leads) later
+leads-append edges here (e ∷ walk) middle more there leads later =
+    (leads.0, leads.1, leads-append edges (edge_at edges e).to walk middle more there leads.2 later)

@@ -1,5 +1,5 @@
 -- A directed graph by its numbered nodes and edges.
-use Rattle.std.specs.Prelude.{ℕ, ◌<◌, List, All, slice_index_or}
+use Rattle.std.specs.Prelude.{ℕ, ◌<◌, List, All, map, slice_index_or}
 use Rattle.fp_labels.specs.declared.graphs.Edge.{Edge}
 
 -- a graph: how many nodes it has, and its edges in the order of their numbers
@@ -18,3 +18,11 @@ edge_at edges number = slice_index_or edges number no_edge
 -- both ends of each edge are nodes
 abbrev pub HasEnds : ℕ → List Edge → Type 0
 HasEnds nodes edges = All (λ (e : Edge). (e.from < nodes) × (e.to < nodes)) edges
+
+-- an edge turned round
+abbrev pub reversed_edge : Edge → Edge
+reversed_edge edge = record { from = edge.to; to = edge.from }
+
+-- the graph with each edge turned round
+abbrev pub reversed_graph : Shape → Shape
+reversed_graph graph = record { nodes = graph.nodes; edges = map reversed_edge graph.edges }

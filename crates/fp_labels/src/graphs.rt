@@ -1,7 +1,7 @@
 //! A graph by its numbered edges, which are grouped by their tails once.
 
-ghost use Rattle.std.specs.Prelude.{◌≡◌, ◌<◌, ◌≤◌, ◌-◌, ◌^◌, length, take, drop, IfOk};
-ghost use Rattle.fp_labels.specs.Graphs.{Shape, edge_at, HasEnds};
+ghost use Rattle.std.specs.Prelude.{◌≡◌, ◌<◌, ◌≤◌, ◌-◌, ◌^◌, length, map, take, drop, IfOk};
+ghost use Rattle.fp_labels.specs.Graphs.{Shape, edge_at, HasEnds, reversed_edge, reversed_graph};
 ghost use Rattle.fp_labels.specs.Rows.{IsRow, IsGrouped};
 
 use crate::NoMemory;
@@ -57,6 +57,14 @@ impl Graph {
         })
     }
 
+    // The graph with each edge turned round, under its number.
+    pub(crate) fn reversed(&self, alloc: Global) -> Result<Graph, NoMemory>
+        ensures { IfOk result (λ back. back ≡ reversed_graph self.now) }
+    {
+        let back = reversed_edges(alloc, &self.edges)?;
+        Graph::new(alloc, self.nodes, &back)
+    }
+
     // How many nodes there are. The ends of the edges are among them.
     pub(crate) fn nodes(&self) -> u32
         ensures value { result ≡ self.now.nodes }
@@ -65,9 +73,10 @@ impl Graph {
         self.nodes
     }
 
-    // The edges in the order of their numbers.
+    // The edges in the order of their numbers. Their ends are nodes.
     pub(crate) fn edges(&self) -> &[Edge]
-        ensures { result.now ≡ self.now.edges }
+        ensures same { result.now ≡ self.now.edges }
+        ensures ends { HasEnds self.now.nodes self.now.edges }
     {
         &self.edges
     }
@@ -101,4 +110,18 @@ fn part(numbers: &[u32], first: u32, end: u32) -> &[u32]
     ensures { result.now ≡ take (end - first) (drop first numbers.now) }
 {
     &numbers[first as usize..end as usize]
+}
+
+// The edges turned round, in the same order.
+fn reversed_edges(alloc: Global, edges: &[Edge]) -> Result<Vec<Edge>, NoMemory>
+    ensures { IfOk result (λ back. back.items ≡ map reversed_edge edges.now) }
+{
+    let mut back = Vec::new(alloc);
+    for edge in edges {
+        back.push(Edge {
+            from: edge.to,
+            to: edge.from,
+        })?;
+    }
+    Ok(back)
 }

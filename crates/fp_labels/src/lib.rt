@@ -9,12 +9,14 @@ mod counting;
 mod graphs;
 mod settling;
 mod tagged;
+mod through;
 mod walks;
 
 pub use graphs::{Edge, Graph};
 use settling::find_labels;
 use std::alloc::Global;
 pub use tagged::tagged_distance;
+pub use through::through_edges;
 pub use walks::Labels;
 
 /// The error of a call that finds no memory.

@@ -3,7 +3,7 @@ use Rattle.std.proofs.Common.{◌≡◌, ℕ, ◌+◌, ◌≤◌, Bool, true, fa
 use Rattle.std.specs.Prelude.{nat_eq, not, Option, Some, None, if◌then◌else◌}
 use Rattle.std.proofs.lemmas.Bool.{and_parts, eqb-true, false≢true}
 use Rattle.fp_tree.specs.declared.sides.Side.{Side}
-use Rattle.fp_tree.specs.declared.sides.Side.TheVariants.{Without, Only, Before, From, AtMost, MoreThan, Through}
+use Rattle.fp_tree.specs.declared.sides.Side.TheVariants.{Without, Only, Before, From, AtMost, MoreThan, Through, Outside}
 use Rattle.fp_tree.specs.Sides.{Counts, HasCount, HasCounts}
 use Rattle.fp_prices_gifts.specs.declared.gifts.Gift.{Gift}
 use Rattle.fp_prices_gifts.specs.GiftNumbers.{better, gift_number, is_of, number_by}
@@ -57,6 +57,7 @@ number-bounds counts gift (MoreThan arc point until trucks) has =
     let parts = and_parts gift.least (is_of gift arc point until) yes in
     at_least gift.least (counts gift.arc gift.point gift.until) (trucks + 1) parts.0 (omega (arith, count-same counts gift arc point until parts.1, has)))
 number-bounds counts gift (Through shipment arc) has = tt
+number-bounds counts gift (Outside shipment arc point until) has = tt
 
 -- so does the best one
 pub gift_number-bounds : (counts : Counts) (sides : List Side) (gift : Gift) → HasCounts counts sides → Bounds gift.least (counts gift.arc gift.point gift.until) (gift_number sides gift)

@@ -1,7 +1,7 @@
 -- What gifts give at a leaf, gift by gift from the last one on.
 use Rattle.std.proofs.Common.{◌≡◌, ℕ, suc, ◌+◌, ◌-◌, ◌*◌, ◌^◌, ◌<◌, ◌≤◌, Bool, true, false, List, [], ◌∷◌, length, get_or, drop, refl, sym, ap, ◌∙◌, subst, arith}
 use Rattle.std.specs.Prelude.{None, Some, if◌then◌else◌}
-use Rattle.std.specs.List.{AllByRecursion, AllZip}
+use Rattle.std.specs.List.{AllZip}
 use Rattle.std.proofs.Math.Nat.{mul-le-mul_left}
 use Rattle.std.proofs.Math.Seq.{drop-cons}
 use Rattle.std.proofs.lemmas.Bool.{false≢true}
@@ -13,16 +13,12 @@ use Rattle.fp_model.specs.Problem.{Problem}
 use Rattle.fp_tree.specs.declared.sides.Side.{Side}
 use Rattle.fp_prices_gifts.specs.declared.gifts.Gift.{Gift}
 use Rattle.fp_prices_gifts.specs.Gifts.{gift_total}
-use Rattle.fp_prices_gifts.specs.GiftLeaves.{EndsAtPoints, IsGiven, least_total, most_total}
+use Rattle.fp_prices_gifts.specs.GiftLeaves.{AreGiftTotals, EndsAtPoints, IsGiven, least_total, most_total}
 use Rattle.fp_prices_gifts.specs.GiftNumbers.{gift_number}
 
--- the gifts end at points, each has a number, and they give these sums, which are small
+-- the gifts give these totals, which are small
 pub record IsGivenFrom (p : Problem) (points : ℕ → List ℕ) (sides : List Side) (gifts : List Gift) (least most : ℕ) : Type 0 where
-  pub numbers : List ℕ
-  pub ends : AllByRecursion (EndsAtPoints p points) gifts
-  pub are_numbers : AllZip (λ gift n. gift_number sides gift ≡ Some n) gifts numbers
-  pub least_is : least ≡ least_total gifts numbers
-  pub most_is : most ≡ most_total gifts numbers
+  pub totals : AreGiftTotals p points sides gifts least most
   pub small : least + most ≤ gift_total gifts * 2 ^ 32
 
 -- one of two numbers, by a test
@@ -36,17 +32,19 @@ left false x y is = refl
 
 module _ (p : Problem) (points : ℕ → List ℕ) (sides : List Side) where
   pub given-none : IsGivenFrom p points sides [] 0 0
-  given-none = record { numbers = []; ends = tt; are_numbers = tt; least_is = omega arith; most_is = omega arith; small = omega arith }
+  given-none = record { totals = record { numbers = []; ends = tt; are_numbers = tt; least_is = omega arith; most_is = omega arith }; small = omega arith }
 
   -- one gift more
   pub given-more : (gift : Gift) (gifts : List Gift) (least most n : ℕ) → EndsAtPoints p points gift → gift_number sides gift ≡ Some n → n ≤ 2 ^ 32 → IsGivenFrom p points sides gifts least most →
       IsGivenFrom p points sides (gift ∷ gifts) ((if gift.least then gift.amount * n else 0) + least) ((if gift.least then 0 else gift.amount * n) + most)
   given-more gift gifts least most n ends told few given = record {
-    numbers = n ∷ given.numbers;
-    ends = (ends, given.ends);
-    are_numbers = (told, given.are_numbers);
-    least_is = ap (λ (m : ℕ). (if gift.least then gift.amount * n else 0) + m) given.least_is;
-    most_is = ap (λ (m : ℕ). (if gift.least then 0 else gift.amount * n) + m) given.most_is;
+    totals = record {
+      numbers = n ∷ given.totals.numbers;
+      ends = (ends, given.totals.ends);
+      are_numbers = (told, given.totals.are_numbers);
+      least_is = ap (λ (m : ℕ). (if gift.least then gift.amount * n else 0) + m) given.totals.least_is;
+      most_is = ap (λ (m : ℕ). (if gift.least then 0 else gift.amount * n) + m) given.totals.most_is;
+    };
     small = omega (arith, given.small, one gift.least (gift.amount * n), mul-le-mul_left gift.amount few, sum_by-cons (λ (g : Gift). g.amount) gift gifts);
   }
     where
@@ -57,11 +55,13 @@ module _ (p : Problem) (points : ℕ → List ℕ) (sides : List Side) where
   -- the same sums, told otherwise
   given-same : (gifts : List Gift) (least most one other : ℕ) → one ≡ least → other ≡ most → IsGivenFrom p points sides gifts least most → IsGivenFrom p points sides gifts one other
   given-same gifts least most one other same too given = record {
-    numbers = given.numbers;
-    ends = given.ends;
-    are_numbers = given.are_numbers;
-    least_is = same ∙ given.least_is;
-    most_is = too ∙ given.most_is;
+    totals = record {
+      numbers = given.totals.numbers;
+      ends = given.totals.ends;
+      are_numbers = given.totals.are_numbers;
+      least_is = same ∙ given.totals.least_is;
+      most_is = too ∙ given.totals.most_is;
+    };
     small = omega (arith, given.small, same, too);
   }
 
@@ -101,19 +101,29 @@ module _ (p : Problem) (points : ℕ → List ℕ) (sides : List Side) where
     pub total-within : gift_total (drop (place - 1) gifts) ≤ gift_total gifts
     total-within = omega (arith, sum_by-take-drop (λ (g : Gift). g.amount) gifts (place - 1))
 
-  -- all gifts
-  pub given-all : (gifts : List Gift) (least most before value : ℕ) → value ≡ before + least - most → IsGivenFrom p points sides gifts least most → IsGiven p points sides gifts before value
-  given-all gifts least most before value is given = record {
+  -- what they give of a value
+  pub given-all : (gifts : List Gift) (least most before value : ℕ) → value ≡ before + least - most → AreGiftTotals p points sides gifts least most → IsGiven p points sides gifts before value
+  given-all gifts least most before value is totals = record {
+    numbers = totals.numbers;
+    ends = totals.ends;
+    are_numbers = totals.are_numbers;
+    value_is = omega (arith, is, totals.least_is, totals.most_is);
+  }
+
+  -- and the totals of what is given
+  pub totals-of : (gifts : List Gift) (before value : ℕ) (given : IsGiven p points sides gifts before value) → AreGiftTotals p points sides gifts (least_total gifts given.numbers) (most_total gifts given.numbers)
+  totals-of gifts before value given = record {
     numbers = given.numbers;
     ends = given.ends;
     are_numbers = given.are_numbers;
-    value_is = omega (arith, is, given.least_is, given.most_is);
+    least_is = refl;
+    most_is = refl;
   }
 
-  -- where one gift does not end at points, or has no number, nothing is given
-  pub ends-all : (gifts : List Gift) (before value i : ℕ) (d : Gift) → i < length gifts → IsGiven p points sides gifts before value → EndsAtPoints p points (get_or gifts i d)
-  ends-all gifts before value i d inside given = AllByRecursion-get_or (EndsAtPoints p points) gifts i d given.ends inside
+  -- where one gift does not end at points, or has no number, there are no totals
+  pub ends-all : (gifts : List Gift) (least most i : ℕ) (d : Gift) → i < length gifts → AreGiftTotals p points sides gifts least most → EndsAtPoints p points (get_or gifts i d)
+  ends-all gifts least most i d inside totals = AllByRecursion-get_or (EndsAtPoints p points) gifts i d totals.ends inside
 
-  pub number-all : (gifts : List Gift) (before value i : ℕ) (d : Gift) → i < length gifts → IsGiven p points sides gifts before value → gift_number sides (get_or gifts i d) ≡ None → ⊥
-  number-all gifts before value i d inside given none =
-      none-some (get_or given.numbers i 0) (sym none ∙ AllZip-get_or (λ gift n. gift_number sides gift ≡ Some n) gifts given.numbers i d 0 given.are_numbers inside)
+  pub number-all : (gifts : List Gift) (least most i : ℕ) (d : Gift) → i < length gifts → AreGiftTotals p points sides gifts least most → gift_number sides (get_or gifts i d) ≡ None → ⊥
+  number-all gifts least most i d inside totals none =
+      none-some (get_or totals.numbers i 0) (sym none ∙ AllZip-get_or (λ gift n. gift_number sides gift ≡ Some n) gifts totals.numbers i d 0 totals.are_numbers inside)

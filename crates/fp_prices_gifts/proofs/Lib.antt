@@ -3,6 +3,7 @@ pub mod GiftCounts
 pub mod GiftRuns
 pub mod GiftSums
 pub mod GiftBounds
+pub mod BarredPlans
 pub mod RuleEnds
 pub mod GivenSums
 pub mod TruckSums

@@ -67,7 +67,7 @@ tells-as_of p valid table v round net of sides spans forced l is r tells =
 
 module _ (p : Problem) (windows : ℕ → ℕ → Option Window) (points : ℕ → List ℕ) (sides : List Side) (table : WindowTable) (under : AreWindowRowsUnder p windows sides table.rows) (tables : List (List ClassShare)) (spans : List ClassSpan) (gifts : List Gift) (kind : Kind) (forced : Bool) where
   -- what is told by the chains of a leaf's value
-  told : (v : ℕ) (leaf : IsGiftLeafValue p (windows_in table) points sides tables spans gifts kind forced v) (r : Result Bool AllocError) (pay : Bool) → r ≡ Ok pay →
+  pub told : (v : ℕ) (leaf : IsGiftLeafValue p (windows_in table) points sides tables spans gifts kind forced v) (r : Result Bool AllocError) (pay : Bool) → r ≡ Ok pay →
       TellsPay p (windows_in table) points (is_allowed p (windows_in table) points sides) spans forced r →
       IsTrue pay ↔ ChargedPay p (windows_in table) points (is_allowed p (windows_in table) points sides) leaf.by_spans.chains spans
   told v leaf r pay is tells =

@@ -39,7 +39,7 @@ IsPaidValue p windows points sides tables spans gifts kind forced value =
 
 module _ (p : Problem) (windows : ℕ → ℕ → Option Window) (points : ℕ → List ℕ) (sides : List Side) (table : WindowTable) (under : AreWindowRowsUnder p windows sides table.rows) where
   -- the sides narrow the windows in one way
-  windows-one : (other : WindowTable) → AreWindowRowsUnder p windows sides other.rows → windows_in other ≡ windows_in table
+  pub windows-one : (other : WindowTable) → AreWindowRowsUnder p windows sides other.rows → windows_in other ≡ windows_in table
   windows-one other also =
       let entry : List (List (Option Window)) → ℕ → ℕ → Option Window = λ rows k a. slice_index_or (slice_index_or rows k []) a None in
       ap entry (AreWindowRowsUnder-one p windows sides other.rows table.rows also under)

@@ -32,7 +32,7 @@ numbers-unique sides (gift ∷ gifts) (a ∷ A) (b ∷ B) is_a is_b =
     ap₂ (λ (n : ℕ) (ns : List ℕ). n ∷ ns) (some-same (gift_number sides gift) a b is_a.0 is_b.0) (numbers-unique sides gifts A B is_a.1 is_b.1)
 
 -- so the gifts make one value of one
-given-unique : (p : Problem) (points : ℕ → List ℕ) (sides : List Side) (gifts : List Gift) (before also v w : ℕ) → before ≡ also → IsGiven p points sides gifts before v → IsGiven p points sides gifts also w → v ≡ w
+pub given-unique : (p : Problem) (points : ℕ → List ℕ) (sides : List Side) (gifts : List Gift) (before also v w : ℕ) → before ≡ also → IsGiven p points sides gifts before v → IsGiven p points sides gifts also w → v ≡ w
 given-unique p points sides gifts before also v w same is_v is_w =
     let numbers : is_v.numbers ≡ is_w.numbers = numbers-unique sides gifts is_v.numbers is_w.numbers is_v.are_numbers is_w.are_numbers in
     omega (arith, same, is_v.value_is, is_w.value_is, ap (least_total gifts) numbers, ap (most_total gifts) numbers)
@@ -60,7 +60,7 @@ module _ (p : Problem) (windows : ℕ → ℕ → Option Window) (points : ℕ �
     before = v;
     plain = inl refl;
     by_spans = is;
-    given = given-all p points sides [] 0 0 v v (omega arith) (given-none p points sides);
+    given = given-all p points sides [] 0 0 v v (omega arith) (given-none p points sides).totals;
   }
 
 -- what is known of a value is known of it beside gifts that may stand there

@@ -22,7 +22,7 @@ use Rattle.fp_prices.specs.Shares.{ClassShare}
 use Rattle.fp_prices_spans.specs.Spans.{ClassSpan}
 use Rattle.fp_prices_spans.proofs.SameSpanValues.{span_bound-same, span_value-same}
 use Rattle.fp_prices_gifts.specs.declared.gifts.Gift.{Gift}
-use Rattle.fp_prices_gifts.specs.GiftLeaves.{EndsAtPoints, IsGiftBound, IsGiftBoundOf}
+use Rattle.fp_prices_gifts.specs.GiftLeaves.{EndsAtPoints, IsGiftBound, IsGiftBoundOf, IsGiftLeafValue, IsGiven}
 
 -- where runs end at points, they end at the same points in other lists
 ends-same : (p : Problem) (points others : ℕ → List ℕ) (gifts : List Gift) → IsValid p → AgreeOnPoints p points others → AllByRecursion (λ (gift : Gift). gift.arc < length p.arcs) gifts →
@@ -42,19 +42,26 @@ ends-same p points others (gift ∷ gifts) valid same exist ends = (
     tail = (All-get_or (IsArc (length p.terminals)) p.arcs gift.arc no_arc exist.0 valid.parts.arcs).from
 
 module _ (p : Problem) (valid : IsValid p) (windows : ℕ → ℕ → Option Window) (sides : List Side) (tables : List (List ClassShare)) (spans : List ClassSpan) (gifts : List Gift) (exist : All (λ (gift : Gift). gift.arc < length p.arcs) gifts) (kind : Kind) (forced : Bool) where
-  bound_of-same : (points others : ℕ → List ℕ) → AgreeOnPoints p points others → (b : LeafBound) → IsGiftBoundOf p windows points sides tables spans gifts kind forced b → IsGiftBoundOf p windows others sides tables spans gifts kind forced b
-  bound_of-same points others same (Empty shipment) is = span_bound-same p valid windows points others same sides tables spans kind forced (Empty shipment) is
-  bound_of-same points others same (Value value) is = record {
+  -- the same is given
+  pub given-over : (points others : ℕ → List ℕ) → AgreeOnPoints p points others → (before value : ℕ) → IsGiven p points sides gifts before value → IsGiven p others sides gifts before value
+  given-over points others same before value is = record {
+    numbers = is.numbers;
+    ends = ends-same p points others gifts valid same (recursion_from_All (λ (gift : Gift). gift.arc < length p.arcs) gifts exist) is.ends;
+    are_numbers = is.are_numbers;
+    value_is = is.value_is;
+  }
+
+  pub gift_value-same : (points others : ℕ → List ℕ) → AgreeOnPoints p points others → (value : ℕ) → IsGiftLeafValue p windows points sides tables spans gifts kind forced value → IsGiftLeafValue p windows others sides tables spans gifts kind forced value
+  gift_value-same points others same value is = record {
     before = is.before;
     plain = is.plain;
     by_spans = span_value-same p valid windows points others same sides tables spans kind forced is.before is.by_spans;
-    given = record {
-      numbers = is.given.numbers;
-      ends = ends-same p points others gifts valid same (recursion_from_All (λ (gift : Gift). gift.arc < length p.arcs) gifts exist) is.given.ends;
-      are_numbers = is.given.are_numbers;
-      value_is = is.given.value_is;
-    };
+    given = given-over points others same is.before value is.given;
   }
+
+  bound_of-same : (points others : ℕ → List ℕ) → AgreeOnPoints p points others → (b : LeafBound) → IsGiftBoundOf p windows points sides tables spans gifts kind forced b → IsGiftBoundOf p windows others sides tables spans gifts kind forced b
+  bound_of-same points others same (Empty shipment) is = span_bound-same p valid windows points others same sides tables spans kind forced (Empty shipment) is
+  bound_of-same points others same (Value value) is = gift_value-same points others same value is
 
   bound-same : (points others : ℕ → List ℕ) → AgreeOnPoints p points others → (found : Option LeafBound) → IsGiftBound p windows points sides tables spans gifts kind forced found → IsGiftBound p windows others sides tables spans gifts kind forced found
   bound-same points others same None none = λ b is. none b (bound_of-same others points (AgreeOnPoints_sym p points others same) b is)

@@ -42,6 +42,15 @@ abbrev pub most_total : List Gift → List ℕ → ℕ
 most_total (gift ∷ gifts) (n ∷ numbers) = (if gift.least then 0 else gift.amount * n) + most_total gifts numbers
 most_total gifts numbers = 0
 
+-- what gifts give at a leaf because at least so many trucks leave, and because at most so many leave; each gift is for as many trucks as the
+-- sides tell, and its run ends at points
+pub record AreGiftTotals (p : Problem) (points : ℕ → List ℕ) (sides : List Side) (gifts : List Gift) (least most : ℕ) : Type 0 where
+  pub numbers : List ℕ
+  pub ends : AllByRecursion (EndsAtPoints p points) gifts
+  pub are_numbers : AllZip (λ gift n. gift_number sides gift ≡ Some n) gifts numbers
+  pub least_is : least ≡ least_total gifts numbers
+  pub most_is : most ≡ most_total gifts numbers
+
 -- a value with what is given added to it, less what is given because at most so many trucks leave, and at least 0; each gift is for as many
 -- trucks as the sides tell, and its run ends at points
 pub record IsGiven (p : Problem) (points : ℕ → List ℕ) (sides : List Side) (gifts : List Gift) (before value : ℕ) : Type 0 where

@@ -1,7 +1,7 @@
 -- For how many trucks a gift is given at a leaf, as its sides tell.
 use Rattle.std.specs.Prelude.{ℕ, ◌+◌, List, [], ◌∷◌, Bool, true, false, ◌&&◌, not, nat_eq, Option, Some, None, max, min, if◌then◌else◌}
 use Rattle.fp_tree.specs.declared.sides.Side.{Side}
-use Rattle.fp_tree.specs.declared.sides.Side.TheVariants.{Without, Only, Before, From, AtMost, MoreThan, Through}
+use Rattle.fp_tree.specs.declared.sides.Side.TheVariants.{Without, Only, Before, From, AtMost, MoreThan, Through, Outside}
 use Rattle.fp_prices_gifts.specs.declared.gifts.Gift.{Gift}
 
 -- whether a gift is of exactly this arc and these times
@@ -18,6 +18,7 @@ number_by gift (From shipment terminal at) = None
 number_by gift (AtMost arc point until trucks) = if not gift.least && is_of gift arc point until then Some trucks else None
 number_by gift (MoreThan arc point until trucks) = if gift.least && is_of gift arc point until then Some (trucks + 1) else None
 number_by gift (Through shipment arc) = None
+number_by gift (Outside shipment arc point until) = None
 
 -- of two numbers the greater one, where at least so many are to leave, and else the less; the one that there is, where there is one
 abbrev pub better : Bool → Option ℕ → Option ℕ → Option ℕ

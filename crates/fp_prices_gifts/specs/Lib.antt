@@ -3,3 +3,4 @@ pub mod GiftNumbers
 pub mod GiftLeaves
 pub mod MomentLeaves
 pub mod GiftKinds
+pub mod GiftBars

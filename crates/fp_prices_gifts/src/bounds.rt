@@ -24,8 +24,8 @@ use fp_timenodes::{MOST_POINTS, Points};
 use fp_tree::Side;
 use std::alloc::Global;
 
-// Whether there are no gifts, or forced classes aren't paid whole.
-fn is_plain(gifts: &[Gift], forced: bool) -> bool
+/// Whether there are no gifts, or forced classes aren't paid whole.
+pub fn is_plain(gifts: &[Gift], forced: bool) -> bool
     ensures { IsTrue result ↔ IsPlain gifts.now forced }
 {
     gifts.is_empty() || !forced

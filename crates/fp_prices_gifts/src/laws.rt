@@ -1,5 +1,6 @@
 //! The theory of leaves under prices with gifts, as contracts without a body.
 ghost use Rattle.std.specs.Prelude.{◌≡◌, ◌^◌};
+ghost use Rattle.fp_prices_gifts.specs.GiftBars.{CheaperPlansObeyBars};
 ghost use Rattle.fp_prices_gifts.specs.GiftLeaves.{ChargedGiftsBoundPlans, GiftLeavesHaveOneValue, GiftValuesBoundPlans, RulesWithoutGifts, SoundGiftsKeepRules, ValuesWithoutGifts};
 ghost use Rattle.fp_prices_gifts.specs.MomentLeaves.{MomentLeavesBoundPlans, MomentLeavesHaveOneValue};
 
@@ -50,6 +51,16 @@ pub fn moment_leaves_bound_plans()
 /// Two values of one leaf by moments are the same number, and a leaf that is empty by moments has none.
 pub fn moment_leaves_have_one_value()
     ensures { MomentLeavesHaveOneValue }
+{}
+
+/// The plans of a leaf that cost less than an amount obey the leaf's bars by that amount, whoever finds them,
+/// under prices with gifts and by moments.
+///
+/// Their departures may be any fractions of the unit of time. The instance is valid, the shares of all tables
+/// keep the price rule, and spans and gifts keep the rules of [`gift_values_bound_plans`], or by moments those
+/// of [`moment_leaves_bound_plans`].
+pub fn cheaper_plans_obey_bars()
+    ensures { CheaperPlansObeyBars }
 {}
 
 /// Without gifts, a number is the leaf's value here exactly where it is the leaf's value by spans.

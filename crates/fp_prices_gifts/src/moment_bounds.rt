@@ -3,6 +3,8 @@ ghost use Rattle.std.specs.Prelude.{◌≡◌, ◌+◌, ◌≤◌, IfOk, IfSome,
 ghost use Rattle.fp_flatnet.specs.Belonging.{FitsInstance};
 ghost use Rattle.fp_flatnet.specs.Tables.{windows_in};
 ghost use Rattle.fp_timenodes.specs.Points.{points_at};
+ghost use Rattle.fp_longestarcs.specs.Whole.{IsWholeNetwork};
+ghost use Rattle.fp_allowed.specs.WindowsUnder.{AreWindowRowsUnder};
 ghost use Rattle.fp_prices_spans.specs.SpanPricings.{ArePrices};
 ghost use Rattle.fp_prices_gifts.specs.Gifts.{AreGifts};
 ghost use Rattle.fp_prices_gifts.specs.GiftLeaves.{IsSmallGiftBound};
@@ -13,12 +15,30 @@ use crate::bounds::gift_bound;
 use crate::gifts::Gift;
 use fp_allowed::Allowed;
 use fp_flatnet::Windows;
+use fp_longestarcs::Network;
 use fp_model::Instance;
 use fp_prices::{Leaf, LeafBound, LeafPrice, RoundNetwork, Table};
 use fp_prices_spans::{Span, charged_pay};
 use fp_timenodes::{MOST_POINTS, Points};
 use fp_tree::Side;
 use std::alloc::Global;
+
+/// The windows that sides narrow, as [`Allowed::leaf_windows`] finds them, on the conditions of
+/// [`Allowed::within`]. `NoMemory` only where no memory is found.
+pub fn narrower_windows(
+    alloc: Global,
+    instance: &Instance,
+    windows: &Windows,
+    network: &Network,
+    sides: &[Side],
+) -> Result<Windows, NoMemory>
+    requires fits { FitsInstance instance.now windows.now }
+    requires whole { IsWholeNetwork instance.now network.now }
+    ensures rows { IfOk result (λ narrower. AreWindowRowsUnder instance.now (windows_in windows.now) sides.now narrower.rows) }
+    ensures fits { IfOk result (FitsInstance instance.now) }
+{
+    Allowed::within(instance, windows, network).leaf_windows(alloc, sides)
+}
 
 /// The bound of the leaf under sides by moments: as [`gift_bound_of`](crate::gift_bound_of) finds it, but
 /// over the windows that the sides narrow, as [`Allowed::leaf_windows`] finds them. `None` also where a
@@ -52,9 +72,7 @@ pub fn moment_bound_of(
     ensures small { IfOk result (λ found. IfSome found IsSmallGiftBound) }
 {
     let network = RoundNetwork::of(alloc, instance, points, price.round)?;
-    let narrower = Allowed::within(instance, windows, network.network()).leaf_windows(
-        alloc, sides,
-    )?;
+    let narrower = narrower_windows(alloc, instance, windows, network.network(), sides)?;
     let leaf = Leaf::of(alloc, &network, &narrower, sides)?;
     match gift_bound(alloc, &leaf, tables, spans, gifts, price.kind, price.forced)? {
         Some(LeafBound::Value { value }) => {

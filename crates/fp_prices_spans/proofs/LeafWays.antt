@@ -19,7 +19,7 @@ use Rattle.fp_model.specs.Problem.{IsValid, Problem}
 use Rattle.fp_flatnet.specs.declared.window_tables.Window.{Window}
 use Rattle.fp_longestarcs.specs.Classes.{class_of}
 use Rattle.fp_tree.specs.declared.sides.Side.{Side}
-use Rattle.fp_tree.specs.declared.sides.Side.TheVariants.{Without, Only, Before, From, AtMost, MoreThan, Through}
+use Rattle.fp_tree.specs.declared.sides.Side.TheVariants.{Without, Only, Before, From, AtMost, MoreThan, Through, Outside}
 use Rattle.fp_tree.specs.Sides.{Exit, HasWays, way_of, ways_of}
 use Rattle.fp_allowed.specs.Allowed.{exit_of, is_allowed}
 use Rattle.fp_allowed.specs.SamePoints.{AgreeOnPoints}
@@ -65,6 +65,7 @@ ways-met routes k (Before shipment terminal at ∷ sides) has = ways-met routes 
 ways-met routes k (From shipment terminal at ∷ sides) has = ways-met routes k sides has.1
 ways-met routes k (AtMost arc point until trucks ∷ sides) has = ways-met routes k sides has.1
 ways-met routes k (MoreThan arc point until trucks ∷ sides) has = ways-met routes k sides has.1
+ways-met routes k (Outside shipment arc point until ∷ sides) has = ways-met routes k sides has.1
 ways-met routes k (Through shipment arc ∷ sides) has =
     ⊎_elim
     (λ (own : nat_eq shipment k ≡ true).
@@ -120,7 +121,7 @@ leaf_route-via p windows points sides spans d k plan exists of_leaf = record {
 }
 
 -- what holds of two lists element by element, and something more of each element of the second
-both-at : {X Y : Type 0} (P : ℕ → X → Y → Type 0) (Q : ℕ → Y → Type 0) (d : Y) (i : ℕ) (xs : List X) (ys : List Y) → AllZipFrom P i xs ys → ((j : ℕ) → j < length ys → Q (i + j) (slice_index_or ys j d)) →
+pub both-at : {X Y : Type 0} (P : ℕ → X → Y → Type 0) (Q : ℕ → Y → Type 0) (d : Y) (i : ℕ) (xs : List X) (ys : List Y) → AllZipFrom P i xs ys → ((j : ℕ) → j < length ys → Q (i + j) (slice_index_or ys j d)) →
     AllZipFrom (λ k x y. P k x y × Q k y) i xs ys
 both-at P Q d i [] [] all more = tt
 both-at P Q d i [] (y ∷ ys) all more = absurd all

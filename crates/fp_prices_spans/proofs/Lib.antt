@@ -37,6 +37,8 @@ pub mod SpanCosts
 pub mod SpanCharges
 pub mod LeafBases
 pub mod SpanValues
+pub mod ThroughBounds
+pub mod ObeyedBars
 pub mod SpanBoundsFound
 pub mod SameSpanValues
 pub mod PaidSpans

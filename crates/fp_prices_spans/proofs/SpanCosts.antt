@@ -152,3 +152,15 @@ small-by_points p spans k nodes (Some n) few told =
     let times : nodes * most ≤ most_layers p * MOST_POINTS * most = mul-le-mul_right most few in
     let more : most_layers p * (MOST_POINTS * most) ≤ most_layers p * (65536 * most) = mul-le-mul_left (most_layers p) (mul-le-mul_right most (let e : MOST_POINTS ≤ 65536 = omega arith in e)) in
     omega (arith, told, times, more)
+
+-- entries past the classes stay free
+still-free : (count : ℕ) (old new : List (Option ℕ)) → length new ≡ length old → ((n : ℕ) → count ≤ n → get_or new n None ≡ get_or old n None) → IsFree count old → IsFree count new
+still-free count old new long others free e from h = others e from ∙ free e from (omega (arith, h, long))
+
+-- what the edges cost, by the chains of the leaf
+pub costs-for : (m : PricingModel) (spans : List ClassSpan) (k : ℕ) (old new : List (Option ℕ)) (chains : List (List Leg)) → IsValid m.leaf.setting.problem → IsWholeNetwork m.leaf.setting.problem m.leaf.setting.network →
+    length new ≡ length old → length old ≡ length (edges_of m.leaf.setting.problem m.leaf.setting.network) → ((n : ℕ) → class_count m.leaf.setting.network ≤ n → get_or new n None ≡ get_or old n None) →
+    IsFree (class_count m.leaf.setting.network) old → AreChainsOf m.leaf m.forced chains → AreSpanCostsOf m spans k new →
+    AreCosts m.leaf.setting.problem m.leaf.setting.network (allowed_at m.leaf k) (span_prices_at m spans chains k) (shipment_at m.leaf.setting.problem k).size new
+costs-for m spans k old new chains valid whole long edges others free are_chains are =
+    costs-of m spans chains k new valid whole (long ∙ edges) (still-free (class_count m.leaf.setting.network) old new long others free) are_chains are

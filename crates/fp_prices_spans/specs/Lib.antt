@@ -13,3 +13,4 @@ pub mod ClassRanges
 pub mod SpanCosts
 pub mod SpanPricings
 pub mod SpanKinds
+pub mod SpanBars

@@ -26,10 +26,14 @@ pub use rules::paid_spans::are_paid;
 pub use rules::span_faults::SpanFault;
 pub use spans::{MOST_SPAN_WEIGHT, Span};
 pub use table_spans::{TableSpans, spans_beside};
+pub use values::leaf_bases::bases;
+pub use values::leaf_charges::after_charges;
 pub use values::paid_leaves::charged_pay;
 pub use values::rounds::span_bound_of;
-pub use values::span_bounds::span_bound;
-pub use ways::{MOST_WAYS, leaf_ways};
+pub use values::span_bounds::{span_bound, value_before_charges};
+pub use values::span_costs::{SpanPricing, fill_costs, least_cost};
+pub use values::spanned_rows::spanned_row;
+pub use ways::{MOST_WAYS, leaf_ways, ways_fit};
 
 /// The error of a call that finds no memory.
 pub type NoMemory = std::alloc::AllocError;

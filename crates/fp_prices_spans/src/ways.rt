@@ -17,8 +17,8 @@ pub const MOST_WAYS: usize = 4;
 // The layers of a search by the most arcs.
 const MOST_LAYERS: u32 = 16;
 
-// Whether no sum of prices passes its limit over so many layers.
-fn ways_fit(instance: &Instance) -> bool
+/// Whether no sum of prices passes its limit over sixteen times as many points. Takes no memory.
+pub fn ways_fit(instance: &Instance) -> bool
     ensures { result ≡ fit_ways instance.now }
 {
     match instance.scale().checked_mul(MOST_LAYERS) {

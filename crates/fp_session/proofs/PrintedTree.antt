@@ -1,5 +1,5 @@
 -- The leaves and the splits of a tree as its lines show them.
-use Rattle.std.proofs.Common.{◌≡◌, ℕ, zero, suc, List, [], ◌∷◌, ⊎_elim, inl, inr, length, map, refl, sym, ap, ◌∙◌, subst}
+use Rattle.std.proofs.Common.{◌≡◌, ℕ, zero, suc, false, List, [], ◌∷◌, ⊎_elim, inl, inr, length, map, refl, sym, ap, ◌∙◌, subst}
 use Rattle.std.specs.Prelude.{⊤, All, IfSome, IsSomeAnd, Option, Some, None, is_some, option_map, slice_get}
 use Rattle.std.specs.List.{AllByRecursion, AllZip}
 use Rattle.std.proofs.lemmas.List.{length-map}
@@ -21,7 +21,8 @@ use Rattle.fp_allowed.specs.Allowed.{tails_of}
 use Rattle.fp_allowed.specs.Slack.{DividesSome}
 use Rattle.fp_certificate_lines.specs.declared.certificates.Node.{Node as Line}
 use Rattle.fp_certificate_lines.specs.declared.certificates.Node.TheVariants as line
-use Rattle.fp_certificate_rules.specs.Leaves.{fork_of, split_tail}
+use Rattle.fp_certificate_rules.specs.Leaves.{fork_of, is_narrowing, split_tail}
+use Rattle.fp_certificate_rules.proofs.BareTrees.{HaveNoNarrowing}
 use Rattle.fp_session_history.specs.Divisions.{AllDivide, Divides, DividesTrucks}
 use Rattle.fp_session.specs.declared.payloads.Payload.{Payload}
 use Rattle.fp_session.specs.TreeLines.{line_of, lines_of}
@@ -54,6 +55,18 @@ HaveTails-lines : (p : Problem) (lines : List Line) → HaveTails (tails_of p) (
 HaveTails-lines p [] = tt
 HaveTails-lines p (line.Branch split ∷ lines) = (IsTailOfSplit-line p split, HaveTails-lines p lines)
 HaveTails-lines p (line.Leaf valuation ∷ lines) = (tt, HaveTails-lines p lines)
+HaveTails-lines p (line.Narrow narrowing ∷ lines) = (tt, HaveTails-lines p lines)
+
+-- no line of a node is a narrowing
+line_of-node : (payload : Payload) (role : Role) → is_narrowing (line_of (record { payload = payload; role = role })) ≡ false
+line_of-node payload (Divided f) = refl
+line_of-node payload (Undivided value closed) = refl
+
+-- so none of a tree's lines is
+pub lines-nodes : (nodes : List (Node Payload)) → HaveNoNarrowing (lines_of nodes)
+lines-nodes nodes =
+    AllByRecursion-map (λ (x : Line). is_narrowing x ≡ false) line_of nodes
+    (AllByRecursion-always (λ (n : Node Payload). is_narrowing (line_of n) ≡ false) (λ n. line_of-node n.payload n.role) nodes)
 
 -- a node splits by the split of its line
 same-split : (p : Problem) (payload : Payload) (role : Role) → let n : Node Payload = record { payload = payload; role = role } in

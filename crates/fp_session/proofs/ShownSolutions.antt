@@ -33,6 +33,7 @@ use Rattle.fp_certificate_lines.specs.Statements.{Statement}
 use Rattle.fp_certificate_rules.specs.Accepted.{Applies, Holds, Part, claim_of}
 use Rattle.fp_certificate_rules.specs.Leaves.{AreLeavesWorth, IsLeafWorth}
 use Rattle.fp_certificate_rules.specs.Plans.{stated_cost}
+use Rattle.fp_certificate_rules.proofs.BareTrees.{AreLeavesWorth-plain, HasTree-plain}
 use Rattle.fp_duals.specs.PriceLines.{AreWithinLimits}
 use Rattle.fp_session_history.specs.declared.endings.Left.{Left}
 use Rattle.fp_session_history.specs.declared.endings.Left.TheVariants.{Nothing, Several, Timing, Unsettled}
@@ -58,7 +59,7 @@ use Rattle.fp_session.proofs.LeafWorths.{bound-le, bound-lt, leaf-of, least-wort
 use Rattle.fp_session.proofs.LineRanges.{legs-in_range, trucks-in_range}
 use Rattle.fp_session.proofs.PlanCosts.{cost-in_range}
 use Rattle.fp_session.proofs.PointRanges.{points-in_range}
-use Rattle.fp_session.proofs.PrintedTree.{AllDivide-lines, IsTree-lines, branches-noted, leaves-printed, length-branches, splits-lines}
+use Rattle.fp_session.proofs.PrintedTree.{AllDivide-lines, IsTree-lines, branches-noted, leaves-printed, length-branches, lines-nodes, splits-lines}
 use Rattle.fp_session.proofs.PriceRanges.{gifts-in_range, prices-hold, spans-few, spans-in_range, unit-in_range}
 use Rattle.fp_session.proofs.TableRanges.{tables-countable, tables-in_range}
 use Rattle.fp_session.proofs.WholeTrees.{all-at, tree-fits}
@@ -110,10 +111,9 @@ module _ (s : Search) (prices : PriceLists) (search : IsSearch s prices) (whole 
   part-holds stated costs worth carried Part.Prices applies =
       let held = prices-hold s.instance s.windows prices search.prices in
       record { tables = held.tables; spans = held.spans; unit = held.unit }
-  part-holds stated costs worth carried Part.Tree applies = record {
-    tree = IsTree-lines s.instance s.tree search.tails whole;
-    few = omega (arith, splits-lines s.instance s.tree search.tails whole, search.few, search.budget.branches);
-  }
+  part-holds stated costs worth carried Part.Tree applies =
+      HasTree-plain s.instance (statement stated) (lines-nodes s.tree) (IsTree-lines s.instance s.tree search.tails whole)
+      (omega (arith, splits-lines s.instance s.tree search.tails whole, search.few, search.budget.branches))
   part-holds stated costs worth carried Part.Leaves applies = worth
   part-holds stated costs worth carried Part.Blocked applies = absurd (carried applies)
 
@@ -122,8 +122,9 @@ module _ (s : Search) (prices : PriceLists) (search : IsSearch s prices) (whole 
       ((k : ℕ) (l : Leaf (Node Payload)) → leaf_at s.tree k ≡ Some l → l.node.payload.empty ≡ false → claim ≤ worth_of h (value_of l.node)) →
       AreLeavesWorth s.instance s.windows (statement stated) claim
   leaves-worth stated claim unmarked =
-      leaves-printed s.instance s.tree search.tails whole (λ (l : Leaf Line). IsLeafWorth s.instance s.windows (statement stated) claim l.node l.sides)
-      (λ k l at. worth-kept h (length prices.tables) claim l.sides l.node.payload (value_of l.node) (leaf-of h s.cost s.tree search.tails whole search.leaves k l at).kept (unmarked k l at))
+      AreLeavesWorth-plain s.instance (statement stated) (lines-nodes s.tree) s.windows claim
+      (leaves-printed s.instance s.tree search.tails whole (λ (l : Leaf Line). IsLeafWorth s.instance s.windows (statement stated) claim [] l.node l.sides)
+      (λ k l at. worth-kept h (length prices.tables) claim l.sides l.node.payload (value_of l.node) (leaf-of h s.cost s.tree search.tails whole search.leaves k l at).kept (unmarked k l at)))
 
   -- where the answer is in range, so is the certificate
   statement-in_range : (stated : Answer) → IsAnswerInRange s.instance stated → IsInRange s.instance (statement stated)

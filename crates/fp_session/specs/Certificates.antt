@@ -61,10 +61,11 @@ pub record IsCertificate (s : Search) (prices : PriceLists) (stated : Answer) (c
   pub few : AreFewLines prices.tables prices.spans prices.gifts
   pub tree : c.tree ≡ lines_of s.tree
 
--- a leaf is valued under all its sides
+-- a leaf is valued under all its sides, and there is no narrowing
 abbrev pub IsWhole : Node → Type 0
 IsWhole (node.Branch split) = Unit {0}
 IsWhole (node.Leaf valuation) = valuation.sides ≡ None
+IsWhole (node.Narrow narrowing) = ⊥
 
 -- the certificate names this unit; without one there are no spans and no gifts, and each leaf is valued
 -- under all its sides, so it means what it did before there were any

@@ -23,7 +23,7 @@ pub record IsEmptyAt (h : History) (sides : List Side) (v : Valuation) : Type 0 
 
 -- of a node that is a leaf: P of how it is valued and of the sides on its way
 abbrev pub OfLeaf : (Valuation → List Side → Type 0) → Leaf Node → Type 0
-OfLeaf P l = elim l.node as (λ n. Type 0) [ node.Branch split ↦ ⊥ | node.Leaf valuation ↦ P valuation l.sides ]
+OfLeaf P l = elim l.node as (λ n. Type 0) [ node.Branch split ↦ ⊥ | node.Leaf valuation ↦ P valuation l.sides | node.Narrow narrowing ↦ ⊥ ]
 
 -- a printed leaf is empty, or earned
 abbrev pub IsPrintedLeaf : History → Leaf Node → Type 0

@@ -2,7 +2,7 @@
 use Rattle.std.proofs.Common.{◌≡◌, ℕ, ◌≤◌, Bool, true, false, List, [], ◌∷◌, length, map, refl, lit≤, lit<, arith}
 use Rattle.std.specs.Prelude.{nat_eq, Option, Some, None}
 use Rattle.fp_tree.specs.declared.sides.Split.TheVariants.{ByArc, ByTime, ByTrucks, ByWay}
-use Rattle.fp_tree.specs.declared.sides.Side.TheVariants.{Without, Only, Before, From, AtMost, MoreThan, Through}
+use Rattle.fp_tree.specs.declared.sides.Side.TheVariants.{Without, Only, Before, From, AtMost, MoreThan, Through, Outside}
 use Rattle.fp_tree.specs.declared.ways.Step.{Step}
 use Rattle.fp_tree.specs.Sides.{Exit, Fork, HasCount, Meets}
 use Rattle.fp_tree.specs.Trees.{Leaf, IsTree, splits_before, tree_branches, tree_leaves, tree_splits, with_leaf}
@@ -120,6 +120,16 @@ by_no_rival = λ own. refl
 
 by_another : Meets 2 1 leg (Through 0 5)
 by_another = λ own. cc own
+
+-- Outside the run from 3 until 5 a shipment doesn't leave at 9 / 2 by the arc; until 4 it does, and another shipment does.
+inside_the_run : Meets 2 0 leg (Outside 0 4 3 5) → ⊥
+inside_the_run is = let late : 10 ≤ 9 = is refl refl (lit≤ tt) in absurd (omega (arith, late))
+
+outside_the_run : Meets 2 0 leg (Outside 0 4 3 4)
+outside_the_run = λ shipment own begun. lit≤ tt
+
+of_another_shipment : Meets 2 1 leg (Outside 0 4 3 5)
+of_another_shipment = λ own. cc own
 
 -- Of two trucks at most 2 and more than 1 leave, and not more than 2.
 abbrev two_trucks : ℕ → ℕ → ℕ → ℕ

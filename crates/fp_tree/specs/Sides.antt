@@ -1,12 +1,12 @@
 -- What the sides of a split ask of the legs of shipments, and of the trucks that leave by an arc in
--- a run of times. A leg leaves at n / d, over any denominator d.
+-- a run of times. One side, `Outside`, no split makes. A leg leaves at n / d, over any denominator d.
 use Rattle.std.specs.Prelude.{ℕ, ◌*◌, ◌<◌, ◌≤◌, ◌≡◌, ◌≢◌, Bool, false, nat_eq, List, [], Option, None, Some, slice_index_or, if◌then◌else◌}
 use Rattle.std.specs.List.{AllByRecursion, filter_map}
 use Rattle.fp_base_lists.specs.Elements.{AnyByRecursion}
 use Rattle.fp_tree.specs.declared.sides.Split.{Split}
 use Rattle.fp_tree.specs.declared.sides.Split.TheVariants.{ByArc, ByTime, ByTrucks, ByWay}
 use Rattle.fp_tree.specs.declared.sides.Side.{Side}
-use Rattle.fp_tree.specs.declared.sides.Side.TheVariants.{Without, Only, Before, From, AtMost, MoreThan, Through}
+use Rattle.fp_tree.specs.declared.sides.Side.TheVariants.{Without, Only, Before, From, AtMost, MoreThan, Through, Outside}
 
 -- A leg as a tree sees it: its arc, the terminal that it leaves, and the numerator of its moment; and
 -- of which arcs its own is a rival: another arc that leaves the same terminal, or enters the same one.
@@ -30,6 +30,7 @@ Meets d k e (From shipment terminal at) = k ≡ shipment → e.tail ≡ terminal
 Meets d k e (AtMost arc point until trucks) = trucks ≡ 0 → IsOutside d arc point until e
 Meets d k e (MoreThan arc point until trucks) = Unit {0}
 Meets d k e (Through shipment arc) = k ≡ shipment → e.is_rival arc ≡ false
+Meets d k e (Outside shipment arc point until) = k ≡ shipment → IsOutside d arc point until e
 
 -- The leg meets all of the sides.
 abbrev pub MeetsAll : ℕ → ℕ → List Side → Exit → Type 0
@@ -58,6 +59,7 @@ HasCount counts (From shipment terminal at) = Unit {0}
 HasCount counts (AtMost arc point until trucks) = counts arc point until ≤ trucks
 HasCount counts (MoreThan arc point until trucks) = trucks < counts arc point until
 HasCount counts (Through shipment arc) = Unit {0}
+HasCount counts (Outside shipment arc point until) = Unit {0}
 
 -- So many trucks leave as each of the sides asks.
 abbrev pub HasCounts : Counts → List Side → Type 0
@@ -72,6 +74,7 @@ HasWay routes (From shipment terminal at) = Unit {0}
 HasWay routes (AtMost arc point until trucks) = Unit {0}
 HasWay routes (MoreThan arc point until trucks) = Unit {0}
 HasWay routes (Through shipment arc) = AnyByRecursion (λ (e : Exit). e.arc ≡ arc) (slice_index_or routes shipment [])
+HasWay routes (Outside shipment arc point until) = Unit {0}
 
 -- Each shipment goes by the arcs that the sides ask it to go by.
 abbrev pub HasWays : List (List Exit) → List Side → Type 0
@@ -86,6 +89,7 @@ way_of k (From shipment terminal at) = None
 way_of k (AtMost arc point until trucks) = None
 way_of k (MoreThan arc point until trucks) = None
 way_of k (Through shipment arc) = if nat_eq shipment k then Some arc else None
+way_of k (Outside shipment arc point until) = None
 
 -- The arcs that sides ask it to go by, in their order.
 abbrev pub ways_of : ℕ → List Side → List ℕ

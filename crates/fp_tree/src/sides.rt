@@ -39,7 +39,8 @@ pub enum Split {
 }
 
 /// What one side of a split asks of the legs of a shipment, where the other shipments are free, or
-/// of the trucks that leave by an arc.
+/// of the trucks that leave by an arc. `Outside` is no split's: it bars departures that a search has
+/// ruled out.
 #[derive(Clone, Copy, PartialEq, Eq, Debug)]
 pub enum Side {
     /// No leg goes by the arc.
@@ -86,6 +87,14 @@ pub enum Side {
     Through {
         shipment: u32,
         arc: u32,
+    },
+    /// No leg leaves by the arc at `point` or later and before `until`, times in the input's unit. No
+    /// split makes this side.
+    Outside {
+        shipment: u32,
+        arc: u32,
+        point: u32,
+        until: u32,
     },
 }
 

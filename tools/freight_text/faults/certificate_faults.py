@@ -36,13 +36,15 @@ LINES = {
     "split,trucks": (*ENDS, *RUN, ("N", (0, GREATEST_NUMBER))),
     "split,way": (("SHIPMENT", "shipment"), *ENDS),
     "leaf": (("KIND", (1, GREATEST, "linear", "even")), ("ROUND", (0, LATEST_ROUND)), ("MODE", ("plain", "forced"))),
+    "narrow": (("KIND", (1, GREATEST, "linear", "even")), ("ROUND", (0, LATEST_ROUND)), ("MODE", ("plain", "forced"))),
     "end": (),
 }  # fmt: skip
-# The fields that may stand after those of a line: that leaves are priced by moments by a table, and under how many of its sides a leaf is valued.
-FURTHER = {"table": (("MOMENTS", ("moments",)),), "leaf": (("SIDES", (0, MOST_SPLITS)),)}
+# The fields that may stand after those of a line: that leaves are priced by moments by a table, under how many of its sides a leaf is valued,
+# and from which worth on a narrowing bars classes.
+FURTHER = {"table": (("MOMENTS", ("moments",)),), "leaf": (("SIDES", (0, MOST_SPLITS)),), "narrow": (("WORTH", FIGURE),)}
 UNDER_DIRECT = ("leg", "truck", "end")
 # The lines with a number whose limit is another number, or hangs on the instance.
-LIMITED = ("scale", "span", "gift", "split", "leaf")
+LIMITED = ("scale", "span", "gift", "split", "leaf", "narrow")
 
 
 def words_of_line(record):

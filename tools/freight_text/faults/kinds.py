@@ -8,7 +8,7 @@ from .values import COMMENT, HEADER
 
 # Where a line of a kind stands in a certificate.
 GROUPS = {
-    "answer": 0, "scale": 1, "unit": 2, "leg": 3, "truck": 4, "point": 5, "table": 6, "share": 6, "span": 6, "weight": 6, "group": 6, "gift": 6, "split": 7, "leaf": 7, "end": 8,
+    "answer": 0, "scale": 1, "unit": 2, "leg": 3, "truck": 4, "point": 5, "table": 6, "share": 6, "span": 6, "weight": 6, "group": 6, "gift": 6, "split": 7, "leaf": 7, "narrow": 7, "end": 8,
 }  # fmt: skip
 INSTANCE, CERTIFICATE = tuple(FIELDS), tuple(GROUPS)
 SEPARATORS = {";": "semicolons", "\t": "tabs", "|": "bars"}

@@ -62,6 +62,9 @@ def certificate_words(timetable):
     counts = Counter(it.kind for it in timetable.claims)
     if not counts["leaf"]:
         return ""
-    names = (("point", "time point", "time points"), ("table", "table", "tables"), ("split", "split", "splits"), ("leaf", "leaf", "leaves"))
+    names = (
+        ("point", "time point", "time points"), ("table", "table", "tables"), ("split", "split", "splits"),
+        ("narrow", "narrowing", "narrowings"), ("leaf", "leaf", "leaves"),
+    )  # fmt: skip
     parts = [f"{counts[kind]:,} {one if counts[kind] == 1 else many}" for kind, one, many in names if counts[kind]]
     return f"The certificate has {', '.join(parts)}."

@@ -48,6 +48,8 @@ pub enum LineKind {
     ByWay,
     /// `leaf,KIND,ROUND,MODE` or `leaf,KIND,ROUND,MODE,SIDES`
     Leaf,
+    /// `narrow,KIND,ROUND,MODE` or `narrow,KIND,ROUND,MODE,WORTH`
+    Narrow,
     /// `end`
     End,
 }
@@ -118,6 +120,8 @@ pub fn kind_of(line: &Record) -> Option<LineKind>
         split_kind(field_at(line, 1))
     } else if is_of_kind(line, b"leaf") {
         Some(LineKind::Leaf)
+    } else if is_of_kind(line, b"narrow") {
+        Some(LineKind::Narrow)
     } else if is_of_kind(line, b"end") {
         Some(LineKind::End)
     } else {

@@ -7,6 +7,7 @@ ghost use Rattle.fp_certificate_lines.specs.Rows.{node_fields};
 use crate::NoMemory;
 use crate::certificates::Node;
 use crate::lines::leaves::write_leaf;
+use crate::lines::narrowings::write_narrowing;
 use crate::lines::splits::write_split;
 use fp_model::Instance;
 use fp_records::Line;
@@ -21,6 +22,7 @@ fn write_node(line: &mut Line, instance: &Instance, node: Node) -> Result<(), No
     match node {
         Node::Branch { split } => write_split(line, instance, split),
         Node::Leaf { valuation } => write_leaf(line, valuation),
+        Node::Narrow { narrowing } => write_narrowing(line, narrowing),
     }
 }
 

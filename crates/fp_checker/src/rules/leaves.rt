@@ -18,8 +18,10 @@ ghost use Rattle.fp_certificate_rules.specs.Prices.{HasPrices};
 
 use crate::NoMemory;
 use crate::cases::Case;
-use crate::rules::leaf_ways::LeafWay;
-use fp_certificate_lines::{Answer, Node, Valuation, by_moments};
+use crate::rules::claims::claim_of;
+use crate::rules::narrowed_ways::NarrowedWay;
+use crate::rules::narrowings::narrowing_bars;
+use fp_certificate_lines::{Node, Valuation, by_moments};
 use fp_certificate_rules::reaches;
 use fp_model::Instance;
 use fp_prices::{Kind, LeafBound, LeafPrice, RoundBounds};
@@ -37,17 +39,6 @@ fn split_tail(instance: &Instance, split: Split) -> u32
     match split {
         Split::ByArc { arc, .. } => instance.arc(arc).from,
         Split::ByTime { .. } | Split::ByTrucks { .. } | Split::ByWay { .. } => 0,
-    }
-}
-
-// What an answer claims that no plan costs less than, and 0 where it claims nothing of the kind.
-fn claim_of(answer: Answer) -> u128
-    ensures { result ≡ claim_of_answer answer }
-{
-    match answer {
-        Answer::Optimal { cost } => cost,
-        Answer::Unfinished { bound, .. } => bound,
-        Answer::Direct { .. } | Answer::Infeasible { .. } => 0,
     }
 }
 
@@ -136,7 +127,7 @@ fn is_whole_worth<'a>(
     alloc: Global,
     case: &Case<'a>,
     points: &Points,
-    way: &LeafWay,
+    way: &NarrowedWay,
     price: LeafPrice,
     kept: RoundBounds<'a>,
 ) -> Result<(bool, RoundBounds<'a>), NoMemory>
@@ -144,14 +135,15 @@ fn is_whole_worth<'a>(
         points.now }
     requires prices { HasPrices case.now.problem case.now.windows case.now.told }
     requires kind { HasKind case.now.told.tables price.kind }
-    requires way { IsKept way.now }
+    requires way { IsKept way.now.way }
     requires kept { AreRoundBounds case.now.problem points.now case.now.told.tables kept }
     ensures exact { IfOk result (λ found. IsTrue found.0
         ↔ IsLeafWorth case.now.problem case.now.windows case.now.told (claim_of_answer case.now.told.answer)
-        (Leaf (record { price = price; sides = None })) (way_sides (steps_of way.now))) }
+        way.now.bars.items (Leaf (record { price = price; sides = None })) (way_sides (steps_of way.now.way))) }
     ensures kept { IfOk result (λ found. AreRoundBounds case.now.problem points.now case.now.told.tables found.1) }
 {
-    let found = leaf_bound(alloc, case, points, way.sides(), price, kept)?;
+    let sides = way.sides(alloc)?;
+    let found = leaf_bound(alloc, case, points, &sides, price, kept)?;
     if is_bound_worth(case, found.0) {
         return Ok((true, found.1));
     }
@@ -163,7 +155,7 @@ fn is_first_worth<'a>(
     alloc: Global,
     case: &Case<'a>,
     points: &Points,
-    way: &LeafWay,
+    way: &NarrowedWay,
     price: LeafPrice,
     count: u32,
     kept: RoundBounds<'a>,
@@ -172,11 +164,11 @@ fn is_first_worth<'a>(
         points.now }
     requires prices { HasPrices case.now.problem case.now.windows case.now.told }
     requires kind { HasKind case.now.told.tables price.kind }
-    requires way { IsKept way.now }
+    requires way { IsKept way.now.way }
     requires kept { AreRoundBounds case.now.problem points.now case.now.told.tables kept }
     ensures exact { IfOk result (λ found. IsTrue found.0
         ↔ IsLeafWorth case.now.problem case.now.windows case.now.told (claim_of_answer case.now.told.answer)
-        (Leaf (record { price = price; sides = Some count })) (way_sides (steps_of way.now))) }
+        way.now.bars.items (Leaf (record { price = price; sides = Some count })) (way_sides (steps_of way.now.way))) }
     ensures kept { IfOk result (λ found. AreRoundBounds case.now.problem points.now case.now.told.tables found.1) }
 {
     let first = way.first_sides(alloc, count)?;
@@ -184,7 +176,8 @@ fn is_first_worth<'a>(
     if is_bound_worth(case, under.0) {
         return Ok((true, under.1));
     }
-    let whole = leaf_bound(alloc, case, points, way.sides(), price, under.1)?;
+    let sides = way.sides(alloc)?;
+    let whole = leaf_bound(alloc, case, points, &sides, price, under.1)?;
     Ok((is_empty(whole.0), whole.1))
 }
 
@@ -194,7 +187,7 @@ fn is_leaf_worth<'a>(
     alloc: Global,
     case: &Case<'a>,
     points: &Points,
-    way: &LeafWay,
+    way: &NarrowedWay,
     valuation: Valuation,
     kept: RoundBounds<'a>,
 ) -> Result<(bool, RoundBounds<'a>), NoMemory>
@@ -202,11 +195,11 @@ fn is_leaf_worth<'a>(
         points.now }
     requires prices { HasPrices case.now.problem case.now.windows case.now.told }
     requires kind { HasKind case.now.told.tables valuation.price.kind }
-    requires way { IsKept way.now }
+    requires way { IsKept way.now.way }
     requires kept { AreRoundBounds case.now.problem points.now case.now.told.tables kept }
     ensures exact { IfOk result (λ found. IsTrue found.0
         ↔ IsLeafWorth case.now.problem case.now.windows case.now.told (claim_of_answer case.now.told.answer)
-        (Leaf valuation) (way_sides (steps_of way.now))) }
+        way.now.bars.items (Leaf valuation) (way_sides (steps_of way.now.way))) }
     ensures kept { IfOk result (λ found. AreRoundBounds case.now.problem points.now case.now.told.tables found.1) }
 {
     let price = valuation.price;
@@ -217,7 +210,7 @@ fn is_leaf_worth<'a>(
 }
 
 // Whether each leaf is worth what the certificate claims. The leaves are reached in preorder,
-// each with sides that ask what those on its way ask.
+// each with sides that ask what those on its way ask, and with the bars of the narrowings on it.
 pub(crate) fn are_leaves_worth(
     alloc: Global,
     case: &Case<'_>,
@@ -231,11 +224,16 @@ pub(crate) fn are_leaves_worth(
 {
     let instance = case.instance;
     let certificate = case.certificate;
-    let mut way = LeafWay::new(alloc);
+    let mut way = NarrowedWay::new(alloc);
     let mut bounds = RoundBounds::of(alloc, instance, points, 0, Kind::Linear)?;
     for node in certificate.tree.as_slice() {
         match *node {
             Node::Branch { split } => way = way.descend(alloc, split, split_tail(instance, split))?,
+            Node::Narrow { narrowing } => {
+                let sides = way.sides(alloc)?;
+                let own = narrowing_bars(alloc, case, points, &sides, narrowing)?;
+                way = way.narrow(&own)?;
+            }
             Node::Leaf { valuation } => {
                 let found = is_leaf_worth(alloc, case, points, &way, valuation, bounds)?;
                 if !found.0 {

@@ -1,15 +1,15 @@
-//! Whether nodes are a tree.
+//! Whether nodes are a tree, with narrowings before them.
 ghost use Rattle.std.specs.Prelude.{◌≡◌, ◌↔◌, IsTrue, length};
 ghost use Rattle.fp_model.specs.Problem.{Problem};
-ghost use Rattle.fp_tree.specs.Trees.{IsTree, tree_splits};
-ghost use Rattle.fp_certificate_rules.specs.Leaves.{fork_of};
+ghost use Rattle.fp_tree.specs.Trees.{tree_splits};
+ghost use Rattle.fp_certificate_rules.specs.Leaves.{AreNarrowedTrees, fork_of, narrowings_among};
 
 use fp_certificate_lines::Node;
 
 // Whether the nodes are exactly one tree in preorder: as long as nodes are to come, a split opens
-// one more tree, and a leaf ends one.
+// one more tree, a leaf ends one, and a narrowing stands before the next node.
 pub(crate) fn is_tree(nodes: &[Node]) -> bool
-    ensures { (p : Problem) → IsTrue result ↔ IsTree (fork_of p) nodes.now }
+    ensures { IsTrue result ↔ AreNarrowedTrees 1 nodes.now }
 {
     let mut pending: usize = 1;
     for node in nodes {
@@ -19,6 +19,7 @@ pub(crate) fn is_tree(nodes: &[Node]) -> bool
         match node {
             Node::Branch { .. } => pending += 1,
             Node::Leaf { .. } => pending -= 1,
+            Node::Narrow { .. } => {}
         }
     }
     pending == 0
@@ -32,6 +33,22 @@ pub(crate) fn split_count(nodes: &[Node]) -> usize
     for node in nodes {
         match node {
             Node::Branch { .. } => count += 1,
+            Node::Leaf { .. } => {}
+            Node::Narrow { .. } => {}
+        }
+    }
+    count
+}
+
+// How many of the nodes are narrowings.
+pub(crate) fn narrowing_count(nodes: &[Node]) -> usize
+    ensures { result ≡ length (narrowings_among nodes.now) }
+{
+    let mut count: usize = 0;
+    for node in nodes {
+        match node {
+            Node::Narrow { .. } => count += 1,
+            Node::Branch { .. } => {}
             Node::Leaf { .. } => {}
         }
     }

@@ -31,7 +31,7 @@ fn class_base(pricing: &LeafPricing, instance: &Instance, network: &Network, cla
 
 /// What the trucks of the leaf's forced chains cost, as few in each class as hold its load, where
 /// forced classes are paid whole, and nothing where the leaf is plain. Takes no memory.
-pub(crate) fn bases(pricing: &LeafPricing) -> u128
+pub fn bases(pricing: &LeafPricing) -> u128
     requires { HasChains pricing.now.leaf pricing.now.forced }
     ensures { AreBases pricing.now result }
 {

@@ -45,7 +45,7 @@ pub(crate) fn is_charged(pricing: &LeafPricing, span: &Span) -> bool
 
 /// A value less the charges of the spans that are charged, once each, and at least 0. Takes no
 /// memory.
-pub(crate) fn after_charges(pricing: &LeafPricing, spans: &[Span], value: u128) -> u128
+pub fn after_charges(pricing: &LeafPricing, spans: &[Span], value: u128) -> u128
     requires { All (IsSpanOf pricing.now.leaf.setting.problem) spans.now }
     ensures { (chains : List (List Leg)) → AreChainsOf pricing.now.leaf pricing.now.forced chains →
         IsAfterCharges pricing.now spans.now chains value result }

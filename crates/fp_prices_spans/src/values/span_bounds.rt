@@ -21,9 +21,14 @@ use crate::values::spanned_rows::spanned_row;
 use fp_prices::{Kind, Leaf, LeafBound, Table};
 use std::alloc::Global;
 
-// The bases and the least cost of each shipment under prices by spans, or the first that has no
-// allowed walk by the leaf's heads.
-fn value_over(alloc: Global, by_spans: &SpanPricing, bases: u128) -> Result<LeafBound, NoMemory>
+/// The bases and the least cost of each shipment under prices by spans, before charges are taken off, or
+/// the first shipment that has no allowed walk by the leaf's heads and ways. `bases` is what
+/// [`bases`](crate::bases) finds. `NoMemory` only where no memory is found.
+pub fn value_before_charges(
+    alloc: Global,
+    by_spans: &SpanPricing,
+    bases: u128,
+) -> Result<LeafBound, NoMemory>
     requires by_spans { IsSpanPricing by_spans.now }
     requires bases { bases ≤ by_spans.now.pricing.now.leaf.setting.problem.scale * alone_total by_spans.now.pricing.now.leaf.setting.problem.arcs by_spans.now.pricing.now.leaf.setting.problem.shipments }
     ensures valid { IfOk result (λ _. IsValid by_spans.now.pricing.now.leaf.setting.problem) }
@@ -94,7 +99,7 @@ pub fn span_bound(
         spans,
         row: &row,
     };
-    let found = value_over(alloc, &by_spans, bases(&pricing))?;
+    let found = value_before_charges(alloc, &by_spans, bases(&pricing))?;
     Ok(match found {
         LeafBound::Value { value } => LeafBound::Value {
             value: after_charges(&pricing, spans, value),

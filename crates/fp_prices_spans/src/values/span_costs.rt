@@ -29,10 +29,10 @@ use std::alloc::Global;
 
 /// The prices of a leaf by spans, with a row that tells which classes are priced by the spans.
 #[derive(Clone, Copy)]
-pub(crate) struct SpanPricing<'a> {
-    pub(crate) pricing: &'a LeafPricing<'a>,
-    pub(crate) spans: &'a [Span],
-    pub(crate) row: &'a Row,
+pub struct SpanPricing<'a> {
+    pub pricing: &'a LeafPricing<'a>,
+    pub spans: &'a [Span],
+    pub row: &'a Row,
 }
 
 // What a class costs a shipment, where these are the prices of the classes: its price and the flow.
@@ -94,10 +94,11 @@ fn put_in(
     }
 }
 
-// Puts in, for each class by its number, what it costs the shipment under prices by spans, and
-// `None` where it isn't allowed for the shipment. Entries past the classes stay. What the shipment
-// pays for each class by the spans is put into `prices`.
-fn fill_costs(
+/// Puts in, for each class by its number, what it costs the shipment under prices by spans, and
+/// `None` where it isn't allowed for the shipment. Entries past the classes stay. What the shipment
+/// pays for each class by the spans is put into `prices`. There is room for one of each for every
+/// class. Takes no memory.
+pub fn fill_costs(
     by_spans: &SpanPricing,
     shipment: u32,
     prices: &mut [u128],
@@ -206,7 +207,7 @@ fn least_via(
 /// the leaf's heads and ways. Prices and costs are put in anew. `NoMemory` only where no memory is
 /// found. One search over the points, which are doubled for each way, and where spans stand one graph
 /// of them.
-pub(crate) fn least_cost(
+pub fn least_cost(
     alloc: Global,
     by_spans: &SpanPricing,
     shipment: u32,

@@ -35,11 +35,7 @@ fn mark(pricing: &LeafPricing, range: ClassRange, row: &mut Row)
 
 /// One bit for each class of the leaf's network, set exactly where the class is priced by the spans:
 /// where one of them holds for it and it isn't forced. `NoMemory` only where no memory is found.
-pub(crate) fn spanned_row(
-    alloc: Global,
-    pricing: &LeafPricing,
-    spans: &[Span],
-) -> Result<Row, NoMemory>
+pub fn spanned_row(alloc: Global, pricing: &LeafPricing, spans: &[Span]) -> Result<Row, NoMemory>
     requires { All (IsSpanOf pricing.now.leaf.setting.problem) spans.now }
     ensures { IfOk result (IsSpannedRow pricing.now spans.now) }
 {

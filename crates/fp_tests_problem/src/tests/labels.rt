@@ -2,7 +2,7 @@
 ghost use Rattle.std.specs.Prelude.{◌≡◌, ◌≤◌, length, All};
 ghost use Rattle.fp_labels.specs.Labels.{IsSmallFor};
 
-use fp_labels::{Edge, Graph, NoMemory, distances, tagged_distance};
+use fp_labels::{Edge, Graph, NoMemory, distances, tagged_distance, through_edges};
 use std::alloc::Global;
 
 // What leads from A over the edges A to B, B to C, A to C and B to A: the costs to A, B, C and to
@@ -81,4 +81,45 @@ fn walks_with_tags(rt: HostRuntime) {
     assert!(rt; tagged(alloc, &[8, 7]).expect(&rt, "memory") == Some(14));
     assert!(rt; tagged(alloc, &[7, 7]).expect(&rt, "memory") == Some(9));
     assert!(rt; tagged(alloc, &[6]).expect(&rt, "memory") == None);
+}
+
+// For each of the same edges the least cost of a walk from A to C that has it.
+fn through(alloc: Global, costs: &[Option<u128>]) -> Result<Vec<Option<u128>>, NoMemory>
+    requires len { length costs.now ≡ 4 }
+    requires small { All (IsSmallFor 8) costs.now }
+{
+    let edges = [
+        Edge { from: 0, to: 1 },
+        Edge { from: 1, to: 2 },
+        Edge { from: 0, to: 2 },
+        Edge { from: 1, to: 0 },
+    ];
+    let graph = Graph::new(alloc, 4, &edges)?;
+    through_edges(alloc, &graph, costs, 0, 2)
+}
+
+#[test]
+fn walks_through_each_edge(rt: HostRuntime) {
+    let alloc = rt.alloc();
+
+    // In a row for 9, straight for 12, and round the cycle of A and B before.
+    let costs = through(alloc, &[Some(4), Some(5), Some(12), Some(1)]).expect(&rt, "memory");
+    assert!(rt; costs.as_slice() == [Some(9), Some(9), Some(12), Some(14)].as_slice());
+
+    // Without the edge from B to C a walk comes back from B.
+    let costs = through(alloc, &[Some(4), None, Some(9), Some(1)]).expect(&rt, "memory");
+    assert!(rt; costs.as_slice() == [Some(14), None, Some(9), Some(14)].as_slice());
+
+    // Without the edge from A to B no walk comes to B.
+    let costs = through(alloc, &[None, Some(5), Some(9), Some(1)]).expect(&rt, "memory");
+    assert!(rt; costs.as_slice() == [None, None, Some(9), None].as_slice());
+
+    // A cycle of cost 0.
+    let costs = through(alloc, &[Some(0), Some(5), Some(9), Some(0)]).expect(&rt, "memory");
+    assert!(rt; costs.as_slice() == [Some(5), Some(5), Some(9), Some(5)].as_slice());
+
+    // The greatest cost that is allowed.
+    let most = 21267647932558653966460912964485513215;
+    let costs = through(alloc, &[Some(most), Some(most), None, None]).expect(&rt, "memory");
+    assert!(rt; costs.as_slice() == [Some(most * 2), Some(most * 2), None, None].as_slice());
 }

@@ -1,6 +1,6 @@
 //! What `bound` prints.
 
-use crate::tests::runs::run_on;
+use crate::runs::run_on;
 use fp_tests_examples::{DETOUR, LINE, TRIO};
 use std::test::Fail;
 

@@ -1,6 +1,6 @@
 //! What `replan` prints of a day that is under way, and what `check` says of it.
 
-use crate::tests::runs::{check_on, run_on};
+use crate::runs::{check_on, run_on};
 use fp_tests_examples::LINE;
 use std::test::Fail;
 

@@ -1,6 +1,6 @@
 //! Searches whose time is over.
 
-use crate::tests::runs::{check_on, run_by, run_on};
+use crate::runs::{check_on, run_by, run_on};
 use fp_tests_examples::{PAIR, TRIO};
 use std::alloc::Global;
 use std::test::Fail;

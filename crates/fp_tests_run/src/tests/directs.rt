@@ -1,6 +1,6 @@
 //! What `direct` prints.
 
-use crate::tests::runs::run_on;
+use crate::runs::run_on;
 use fp_tests_examples::{LINE, ONE_ARC, PAIR};
 use std::test::Fail;
 

@@ -1,6 +1,6 @@
 //! What `yard` and `fleet` print of the plans that certificates tell.
 
-use crate::tests::runs::run_on;
+use crate::runs::run_on;
 use fp_tests_examples::{LINE, LINE_PROOF};
 use std::test::Fail;
 

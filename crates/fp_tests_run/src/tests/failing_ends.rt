@@ -1,6 +1,6 @@
 //! Sources and sinks that fail, and an input that is too long.
 
-use crate::tests::runs::{run_over, sink_of, source_of, words_of};
+use crate::runs::{run_over, sink_of, source_of, words_of};
 use fp_app::run;
 use fp_ends::{SureSink, SureSource};
 use fp_tests_examples::ONE_ARC;

@@ -1,6 +1,6 @@
 //! What `improve` prints of the plans that certificates tell.
 
-use crate::tests::runs::{check_on, noted_by, run_by, run_on};
+use crate::runs::{check_on, noted_by, run_by, run_on};
 use fp_tests_examples::{LINE, LINE_PROOF, LINE_TABLE, PAIR, TRIO, TRIO_PROOF};
 use std::test::Fail;
 

@@ -1,6 +1,6 @@
 //! The refusals of an instance's records, each by its ordinal and code.
 
-use crate::tests::runs::run_on;
+use crate::runs::run_on;
 use std::test::Fail;
 
 const TWO_TERMINALS: &str = "terminal,A\nterminal,B\n";

@@ -1,6 +1,6 @@
 //! Notes on searches while they go on.
 
-use crate::tests::runs::{check_on, noted_by, run_on};
+use crate::runs::{check_on, noted_by, run_on};
 use fp_tests_examples::TRIO;
 use std::alloc::Global;
 use std::test::Fail;

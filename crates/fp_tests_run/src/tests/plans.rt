@@ -1,6 +1,6 @@
 //! What `plan` prints, and that `check` accepts it.
 
-use crate::tests::runs::{check_on, lines_with, run_on, trucks_from};
+use crate::runs::{check_on, lines_with, run_on, trucks_from};
 use fp_tests_examples::{DETOUR, LINE, ONE_ARC, PAIR, TRIO};
 use std::test::Fail;
 

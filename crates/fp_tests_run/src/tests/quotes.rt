@@ -1,6 +1,6 @@
 //! What `quote` prints.
 
-use crate::tests::runs::run_on;
+use crate::runs::run_on;
 use fp_tests_examples::{LINE, PAIR};
 use std::test::Fail;
 

@@ -1,6 +1,6 @@
 //! As many terminals, arcs and shipments as an instance may have, and one more.
 
-use crate::tests::runs::run_on;
+use crate::runs::run_on;
 use std::alloc::{AllocError, Global};
 use std::test::Fail;
 

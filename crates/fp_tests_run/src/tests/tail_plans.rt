@@ -1,8 +1,8 @@
 //! What `yard`, `fleet` and `improve` print of answers that follow kept legs or a day that is under way.
 
+use crate::runs::{check_on, run_on};
 use crate::tests::days::HUB;
 use crate::tests::improvements::{HEAVY, HEAVY_PLAN};
-use crate::tests::runs::{check_on, run_on};
 use fp_tests_examples::{LINE, LINE_PROOF};
 use std::test::Fail;
 

@@ -1,6 +1,6 @@
 //! What `trial` prints, whatever the source holds.
 
-use crate::tests::runs::run_on;
+use crate::runs::run_on;
 use std::test::Fail;
 
 #[test]

@@ -1,6 +1,6 @@
 //! Words that are none of the forms, and words with options.
 
-use crate::tests::runs::run_on;
+use crate::runs::run_on;
 use fp_tests_examples::ONE_ARC;
 use std::test::Fail;
 

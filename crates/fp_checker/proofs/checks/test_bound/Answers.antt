@@ -2,10 +2,10 @@ use Rattle.std.proofs.Common.{◌≡◌, ◌≤◌, List, length, sym, ap, ◌�
 use Rattle.std.proofs.lemmas.Result.{err_from_is_err_and}
 use Rattle.fp_model.specs.Problem.{Problem}
 use Rattle.fp_timenodes.specs.declared.places.AddedPoint.{AddedPoint}
-use Rattle.fp_tree.specs.Trees.{IsTree, tree_splits}
+use Rattle.fp_tree.specs.Trees.{tree_splits}
 use Rattle.fp_certificate_lines.specs.declared.certificates.Node.{Node}
 use Rattle.fp_certificate_lines.specs.Statements.{Statement}
-use Rattle.fp_certificate_rules.specs.Leaves.{HasTree, fork_of}
+use Rattle.fp_certificate_rules.specs.Leaves.{AreNarrowedTrees, HasTree, fork_of, narrowings_among}
 use Rattle.fp_certificate_rules.specs.Points.{AreAddedPoints, ArePointsOf}
 use Rattle.fp_certificate_rules.specs.Prices.{HasPrices}
 use Rattle.fp_checker.proofs.Results.{Part_injective, false_refutes, Err_any}
@@ -13,11 +13,12 @@ use Rattle.fp_checker.proofs.FirstParts.{points_unmet, prices_unmet, tree_unmet,
 use Rattle.fp_checker.proofs.checks.test_bound.Goals as goal
 use Rattle.fp_checker.proofs.checks.test_bound.Goals.{then-not-is_tree-via-then-not-is_tree, then-not-is_tree-via-else-not-is_tree+then-split_count}
 
--- nodes that are a tree of few splits, where they are the certificate's
-has-tree : (p : Problem) (c : Statement) (nodes : List Node) → nodes ≡ c.tree → IsTree (fork_of p) nodes → length (tree_splits (fork_of p) nodes) ≤ 100000 → HasTree p c
-has-tree p c nodes same tree few = record {
-  tree = subst (IsTree (fork_of p)) same tree;
+-- nodes that are a tree of few splits and few narrowings, where they are the certificate's
+has-tree : (p : Problem) (c : Statement) (nodes : List Node) → nodes ≡ c.tree → AreNarrowedTrees 1 nodes → length (tree_splits (fork_of p) nodes) ≤ 100000 → length (narrowings_among nodes) ≤ 50000 → HasTree p c
+has-tree p c nodes same tree few narrowings = record {
+  tree = subst (AreNarrowedTrees 1) same tree;
   few = subst (λ (xs : List Node). length (tree_splits (fork_of p) xs) ≤ 100000) same few;
+  narrowings = subst (λ (xs : List Node). length (narrowings_among xs) ≤ 50000) same narrowings;
 }
 
 pub has_prices-requires-clause-countable : goal.has_prices-requires-clause-countable
@@ -79,10 +80,23 @@ returns-then-not-is_tree-clause-part c number same =
     (λ has.
     elim c.then-not-is_tree.branch [
       | then-not-is_tree-via-then-not-is_tree w ↦
-          false_refutes c.is_tree.result w.if-not-is_tree.true (c.is_tree.ensures p).1 (subst (IsTree (fork_of p)) (sym nodes) has.tree)
+          false_refutes c.is_tree.result w.if-not-is_tree.true c.is_tree.ensures.1 (subst (AreNarrowedTrees 1) (sym nodes) has.tree)
       | then-not-is_tree-via-else-not-is_tree+then-split_count w ↦
           omega (arith, w.split_count.ensures p, w.if-split_count.true, has.few, ap (λ (xs : List Node). length (tree_splits (fork_of p) xs)) nodes)
     ])
+    number (Part_injective 6 number same))
+
+pub returns-then-narrowing_count-gt-MOST_NARROWINGS-clause-part : goal.returns-then-narrowing_count-gt-MOST_NARROWINGS-clause-part
+returns-then-narrowing_count-gt-MOST_NARROWINGS-clause-part c number same =
+    let p = c.case.inside.instance.now in
+    let timetable = rw (← c.case.view_is) at c.requires.timetable in
+    let told : Statement = c.case.inside.certificate.now in
+    let points : AreAddedPoints p c.case.inside.windows.now.anchors told.points =
+    subst (AreAddedPoints p c.case.inside.windows.now.anchors) (c.as_slice.ensures.value ∙ ap (λ (s : Statement). s.points) c.certificate.view_is) c.in_ok-points.ensures.holds in
+    let prices : HasPrices p c.case.inside.windows.now told = c.in_ok-has_prices.ensures.0 c.if-not-branch.false in
+    let nodes : c.as_slice-nodes.result.now ≡ told.tree = c.as_slice-nodes.ensures.value ∙ ap (λ (s : Statement). s.tree) c.certificate.view_is in
+    rw (← c.case.view_is) (tree_unmet p c.case.inside.windows.now told timetable points prices
+    (λ has. omega (arith, c.narrowing_count.ensures, c.if-narrowing_count-gt-MOST_NARROWINGS.true, has.narrowings, ap (λ (xs : List Node). length (narrowings_among xs)) nodes))
     number (Part_injective 6 number same))
 
 pub returns-then-not-branch-2-clause-part : goal.returns-then-not-branch-2-clause-part
@@ -95,7 +109,8 @@ returns-then-not-branch-2-clause-part c number same =
     let prices : HasPrices p c.case.inside.windows.now told = c.in_ok-has_prices.ensures.0 c.if-not-branch.false in
     let nodes : c.as_slice-nodes.result.now ≡ told.tree = c.as_slice-nodes.ensures.value ∙ ap (λ (s : Statement). s.tree) c.certificate.view_is in
     let tree : HasTree p told =
-    has-tree p told c.as_slice-nodes.result.now nodes ((c.is_tree.ensures p).0 c.if-not-is_tree.false) (omega (arith, c.split_count.ensures p, c.if-split_count.false)) in
+    has-tree p told c.as_slice-nodes.result.now nodes (c.is_tree.ensures.0 c.if-not-is_tree.false) (omega (arith, c.split_count.ensures p, c.if-split_count.false))
+    (omega (arith, c.narrowing_count.ensures, c.if-narrowing_count-gt-MOST_NARROWINGS.false)) in
     let worth = rw (← c.case.view_is) at c.in_ok-are_leaves_worth.ensures in
     rw (← c.case.view_is) (leaves_unmet p c.case.inside.windows.now told timetable points prices tree
     (false_refutes c.in_ok-are_leaves_worth.field-0 c.if-not-branch-2.true worth.1)
@@ -111,6 +126,7 @@ returns-clause-holds c =
     let prices : HasPrices p c.case.inside.windows.now told = c.in_ok-has_prices.ensures.0 c.if-not-branch.false in
     let nodes : c.as_slice-nodes.result.now ≡ told.tree = c.as_slice-nodes.ensures.value ∙ ap (λ (s : Statement). s.tree) c.certificate.view_is in
     let tree : HasTree p told =
-    has-tree p told c.as_slice-nodes.result.now nodes ((c.is_tree.ensures p).0 c.if-not-is_tree.false) (omega (arith, c.split_count.ensures p, c.if-split_count.false)) in
+    has-tree p told c.as_slice-nodes.result.now nodes (c.is_tree.ensures.0 c.if-not-is_tree.false) (omega (arith, c.split_count.ensures p, c.if-split_count.false))
+    (omega (arith, c.narrowing_count.ensures, c.if-narrowing_count-gt-MOST_NARROWINGS.false)) in
     let worth = rw (← c.case.view_is) at c.in_ok-are_leaves_worth.ensures in
     rw (← c.case.view_is) (HoldBelow_all p c.case.inside.windows.now told timetable points prices tree (worth.0 c.if-not-branch-2.false))

@@ -9,7 +9,7 @@ pub new-requires-clause-ends : goal.new-requires-clause-ends
 new-requires-clause-ends c =
     let nodes : ℕ = c.nodes-nodes.result in
     let edges : List Edge = c.edges-edges.result.now in
-    let ends : HasEnds nodes edges = rw (c.nodes-nodes.ensures.value, c.edges-edges.ensures) c.nodes-nodes.ensures.ends in
+    let ends : HasEnds nodes edges = rw (c.nodes-nodes.ensures.value, c.edges-edges.ensures.same) c.nodes-nodes.ensures.ends in
     let are = layered-append nodes c.args.tag edges c.args.tags.now c.in_ok-lower.lower.items c.in_ok-lower.ensures in
     let both : c.deref.result.now ≡ c.in_ok-lower.lower.items ++ map (upper_edge nodes) edges = c.deref.ensures.value ∙ c.in_ok-both.ensures in
     subst (λ (xs : List Edge). HasEnds (nodes + nodes) xs) (sym both)

@@ -1,9 +1,7 @@
-use Rattle.std.proofs.Common.{ℕ, List, ap, ◌∙◌, subst}
+use Rattle.std.proofs.Common.{ℕ, List, ap, ◌∙◌}
 use Rattle.std.specs.Prelude.{None, Some}
 use Rattle.fp_flatnet.specs.Tables.{windows_in}
 use Rattle.fp_timenodes.specs.Points.{points_at}
-use Rattle.fp_allowed.specs.Settings.{Setting}
-use Rattle.fp_allowed.specs.WindowsUnder.{AreWindowRowsUnder}
 use Rattle.fp_prices.specs.declared.values.bounds.LeafBound.{LeafBound}
 use Rattle.fp_prices.specs.declared.values.bounds.LeafBound.TheVariants.{Empty, Value}
 use Rattle.fp_prices.proofs.LeafBounds.{leaf-is}
@@ -15,7 +13,7 @@ returns-then-pay-clause-exact c =
     let p = c.args.instance.now in
     let own : ℕ → List ℕ = λ terminal. points_at c.args.points.now terminal c.args.price.round in
     let table = c.in_ok-narrower.narrower in
-    let under = subst (λ (s : Setting). AreWindowRowsUnder s.problem (windows_in s.windows) c.args.sides.now table.rows) c.within.ensures c.in_ok-narrower.ensures.rows in
+    let under = c.in_ok-narrower.ensures.rows in
     let is = leaf-is p table c.args.sides.now c.in_ok-network.network c.in_ok-leaf.leaf c.in_ok-network.ensures.instance c.in_ok-leaf.ensures.setting c.in_ok-leaf.ensures.sides in
     let found = found-as_of p c.requires.fits.valid table c.args.points.now c.args.price.round c.in_ok-network.network.network c.in_ok-network.ensures.network c.args.sides.now c.args.tables.now c.args.spans.now c.args.gifts.now
     c.requires.gifts c.args.price.kind c.args.price.forced c.in_ok-leaf.leaf is c.in_ok-value.field-0 (Some (Value c.in-Some-Value.value)) (c.in-Some-Value.is ∙ ap (λ (b : LeafBound). Some b) c.in-Some-Value.field-0-is) c.in_ok-value.ensures.exact in
@@ -29,7 +27,7 @@ returns-in-Some-Value-clause-exact c =
     let p = c.args.instance.now in
     let own : ℕ → List ℕ = λ terminal. points_at c.args.points.now terminal c.args.price.round in
     let table = c.in_ok-narrower.narrower in
-    let under = subst (λ (s : Setting). AreWindowRowsUnder s.problem (windows_in s.windows) c.args.sides.now table.rows) c.within.ensures c.in_ok-narrower.ensures.rows in
+    let under = c.in_ok-narrower.ensures.rows in
     let is = leaf-is p table c.args.sides.now c.in_ok-network.network c.in_ok-leaf.leaf c.in_ok-network.ensures.instance c.in_ok-leaf.ensures.setting c.in_ok-leaf.ensures.sides in
     let found = found-as_of p c.requires.fits.valid table c.args.points.now c.args.price.round c.in_ok-network.network.network c.in_ok-network.ensures.network c.args.sides.now c.args.tables.now c.args.spans.now c.args.gifts.now
     c.requires.gifts c.args.price.kind c.args.price.forced c.in_ok-leaf.leaf is c.in_ok-value.field-0 (Some (Value c.in-Some-Value.value)) (c.in-Some-Value.is ∙ ap (λ (b : LeafBound). Some b) c.in-Some-Value.field-0-is) c.in_ok-value.ensures.exact in
@@ -43,7 +41,7 @@ returns-in-Some-Empty-clause-exact c =
     let p = c.args.instance.now in
     let own : ℕ → List ℕ = λ terminal. points_at c.args.points.now terminal c.args.price.round in
     let table = c.in_ok-narrower.narrower in
-    let under = subst (λ (s : Setting). AreWindowRowsUnder s.problem (windows_in s.windows) c.args.sides.now table.rows) c.within.ensures c.in_ok-narrower.ensures.rows in
+    let under = c.in_ok-narrower.ensures.rows in
     let is = leaf-is p table c.args.sides.now c.in_ok-network.network c.in_ok-leaf.leaf c.in_ok-network.ensures.instance c.in_ok-leaf.ensures.setting c.in_ok-leaf.ensures.sides in
     let found = found-as_of p c.requires.fits.valid table c.args.points.now c.args.price.round c.in_ok-network.network.network c.in_ok-network.ensures.network c.args.sides.now c.args.tables.now c.args.spans.now c.args.gifts.now
     c.requires.gifts c.args.price.kind c.args.price.forced c.in_ok-leaf.leaf is c.in_ok-value.field-0 (Some (Empty c.in-Some-Empty.shipment)) (c.in-Some-Empty.is ∙ ap (λ (b : LeafBound). Some b) c.in-Some-Empty.field-0-is) c.in_ok-value.ensures.exact in
@@ -54,7 +52,7 @@ returns-clause-exact c =
     let p = c.args.instance.now in
     let own : ℕ → List ℕ = λ terminal. points_at c.args.points.now terminal c.args.price.round in
     let table = c.in_ok-narrower.narrower in
-    let under = subst (λ (s : Setting). AreWindowRowsUnder s.problem (windows_in s.windows) c.args.sides.now table.rows) c.within.ensures c.in_ok-narrower.ensures.rows in
+    let under = c.in_ok-narrower.ensures.rows in
     let is = leaf-is p table c.args.sides.now c.in_ok-network.network c.in_ok-leaf.leaf c.in_ok-network.ensures.instance c.in_ok-leaf.ensures.setting c.in_ok-leaf.ensures.sides in
     let found = found-as_of p c.requires.fits.valid table c.args.points.now c.args.price.round c.in_ok-network.network.network c.in_ok-network.ensures.network c.args.sides.now c.args.tables.now c.args.spans.now c.args.gifts.now
     c.requires.gifts c.args.price.kind c.args.price.forced c.in_ok-leaf.leaf is c.in_ok-value.field-0 None c.in-None.is c.in_ok-value.ensures.exact in

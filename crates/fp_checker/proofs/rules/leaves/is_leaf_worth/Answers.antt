@@ -14,7 +14,7 @@ returns-in-None-clause-exact c =
     let t = c.args.case.now in
     IfOk-weaker c.is_whole_worth.result _ _
     (λ found exact.
-    subst (λ (o : Option ℕ). IsTrue found.0 ↔ IsLeafWorth t.problem t.windows t.told (claim_of t.told.answer) (Leaf (record { price = c.args.valuation.price; sides = o })) (way_sides (steps_of c.args.way.now)))
+    subst (λ (o : Option ℕ). IsTrue found.0 ↔ IsLeafWorth t.problem t.windows t.told (claim_of t.told.answer) c.args.way.now.bars.items (Leaf (record { price = c.args.valuation.price; sides = o })) (way_sides (steps_of c.args.way.now.way)))
     (sym c.in-None.is) exact)
     c.is_whole_worth.ensures.exact
 
@@ -23,6 +23,6 @@ returns-in-Some-clause-exact c =
     let t = c.args.case.now in
     IfOk-weaker c.is_first_worth.result _ _
     (λ found exact.
-    subst (λ (o : Option ℕ). IsTrue found.0 ↔ IsLeafWorth t.problem t.windows t.told (claim_of t.told.answer) (Leaf (record { price = c.args.valuation.price; sides = o })) (way_sides (steps_of c.args.way.now)))
+    subst (λ (o : Option ℕ). IsTrue found.0 ↔ IsLeafWorth t.problem t.windows t.told (claim_of t.told.answer) c.args.way.now.bars.items (Leaf (record { price = c.args.valuation.price; sides = o })) (way_sides (steps_of c.args.way.now.way)))
     (sym c.in-Some.is) exact)
     c.is_first_worth.ensures.exact

@@ -1,22 +1,25 @@
 -- One bound tells whether the leaf is empty, and whether it is worth the claim.
-use Rattle.std.proofs.Common.{inl, inr, ⊎_elim, refl, sym, ◌∙◌}
+use Rattle.std.proofs.Common.{List, ◌++◌, inl, inr, ⊎_elim, refl, sym, ◌∙◌, subst}
 use Rattle.std.proofs.lemmas.Bool.{false≢true}
+use Rattle.fp_tree.specs.declared.sides.Side.{Side}
 use Rattle.fp_tree.specs.Ways.{way_sides}
-use Rattle.fp_checker.specs.LeafWays.{steps_of}
+use Rattle.fp_checker.specs.LeafWays.{AskAlike, steps_of}
 use Rattle.fp_checker.proofs.LeafBounds.{IsEmptyUnder, IsWorthUnder, bound-empty, bound-worth}
 use Rattle.fp_checker.proofs.rules.leaves.is_whole_worth.Goals as goal
 
 pub returns-then-is_bound_worth-clause-exact : goal.returns-then-is_bound_worth-clause-exact
 returns-then-is_bound_worth-clause-exact c =
-    let sides = way_sides (steps_of c.args.way.now) in
-    let worth = bound-worth c.args.case.now c.args.price c.sides.result.now sides c.in_ok-found.found.0 c.sides.ensures c.in_ok-found.ensures.exact in
+    let sides = c.args.way.now.bars.items ++ way_sides (steps_of c.args.way.now.way) in
+    let alike : AskAlike c.deref.result.now sides = subst (λ (s : List Side). AskAlike s sides) (sym c.deref.ensures.value) c.in_ok-sides.ensures in
+    let worth = bound-worth c.args.case.now c.args.price c.deref.result.now sides c.in_ok-found.found.0 alike c.in_ok-found.ensures.exact in
     ((λ _. inr (worth.0 (c.is_bound_worth.ensures.0 c.if-is_bound_worth.true))), (λ _. refl))
 
 pub returns-clause-exact : goal.returns-clause-exact
 returns-clause-exact c =
-    let sides = way_sides (steps_of c.args.way.now) in
-    let worth = bound-worth c.args.case.now c.args.price c.sides.result.now sides c.in_ok-found.found.0 c.sides.ensures c.in_ok-found.ensures.exact in
-    let empty = bound-empty c.args.case.now c.args.price c.sides.result.now sides c.in_ok-found.found.0 c.sides.ensures c.in_ok-found.ensures.exact in (
+    let sides = c.args.way.now.bars.items ++ way_sides (steps_of c.args.way.now.way) in
+    let alike : AskAlike c.deref.result.now sides = subst (λ (s : List Side). AskAlike s sides) (sym c.deref.ensures.value) c.in_ok-sides.ensures in
+    let worth = bound-worth c.args.case.now c.args.price c.deref.result.now sides c.in_ok-found.found.0 alike c.in_ok-found.ensures.exact in
+    let empty = bound-empty c.args.case.now c.args.price c.deref.result.now sides c.in_ok-found.found.0 alike c.in_ok-found.ensures.exact in (
       λ h. inl (empty.0 (c.is_empty.ensures.0 h)),
       λ e.
           ⊎_elim (λ (x : IsEmptyUnder c.args.case.now c.args.price sides). c.is_empty.ensures.1 (empty.1 x))

@@ -7,9 +7,9 @@ use Rattle.fp_tree.specs.Trees.{tree_splits}
 use Rattle.fp_certificate_lines.specs.declared.certificates.Node.{Node}
 use Rattle.fp_certificate_lines.specs.declared.certificates.Node.TheVariants.{Branch}
 use Rattle.fp_certificate_rules.specs.Leaves.{fork_of}
-use Rattle.fp_checker.proofs.TreeNodes.{branch-counts, leaf-counts}
+use Rattle.fp_checker.proofs.TreeNodes.{branch-counts, leaf-counts, narrowing-counts}
 use Rattle.fp_checker.proofs.rules.trees.split_count.Goals as goal
-use Rattle.fp_checker.proofs.rules.trees.split_count.Goals.{in-Branch, in-Leaf}
+use Rattle.fp_checker.proofs.rules.trees.split_count.Goals.{in-Branch, in-Leaf, in-Narrow}
 
 pub loop-node-preserved : goal.loop-node-preserved
 loop-node-preserved c =
@@ -37,6 +37,17 @@ loop-node-preserved c =
               c.loop-node.invariant.same p,
               length-filter_more (λ x. is_some (fork_of p x)) nodes c.loop-node.node-index none lt,
               leaf-counts p (get_or nodes c.loop-node.node-index none) _ w.in-Leaf.is,
+            );
+      }
+      | in-Narrow w ↦ record {
+        few = omega (arith, w.count-is, c.loop-node.invariant.few);
+        same = λ p.
+            omega (
+              arith,
+              w.count-is,
+              c.loop-node.invariant.same p,
+              length-filter_more (λ x. is_some (fork_of p x)) nodes c.loop-node.node-index none lt,
+              narrowing-counts p (get_or nodes c.loop-node.node-index none) _ w.in-Narrow.is,
             );
       }
     ]

@@ -14,8 +14,8 @@ use Rattle.fp_prices_spans.proofs.SpanBoundsFound.{bound-plans, value-after}
 use Rattle.fp_prices_spans.proofs.values.span_bounds.span_bound.Goals as goal
 use Rattle.fp_prices_spans.proofs.values.span_bounds.span_bound.Goals.{in-Empty, in-Value}
 
-pub value_over-requires-clause-by_spans : goal.value_over-requires-clause-by_spans
-value_over-requires-clause-by_spans c =
+pub value_before_charges-requires-clause-by_spans : goal.value_before_charges-requires-clause-by_spans
+value_before_charges-requires-clause-by_spans c =
     let m : PricingModel = record { leaf = c.args.leaf.now; tables = c.args.tables.now; kind = c.args.kind; forced = c.args.forced } in
     let same : c.in_ok-pricing.pricing ≡ m = c.in_ok-pricing.ensures.is in
     record {

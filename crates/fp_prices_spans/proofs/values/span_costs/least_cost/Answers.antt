@@ -25,7 +25,7 @@ use Rattle.fp_prices_spans.specs.TaggedEdges.{IsDistanceVia}
 use Rattle.fp_prices_spans.specs.Ways.{IsLeastVia, leaf_ways, ways_fit}
 use Rattle.fp_prices_spans.proofs.LeafHeads.{are-leaf_heads}
 use Rattle.fp_prices_spans.proofs.LeafWays.{layers-most, least-none, ways-few}
-use Rattle.fp_prices_spans.proofs.SpanCosts.{costs-at_most, costs-of, costs-small, small-by_points}
+use Rattle.fp_prices_spans.proofs.SpanCosts.{costs-at_most, costs-for, costs-small, small-by_points}
 use Rattle.fp_prices_spans.proofs.TaggedEdges.{least-tagged}
 use Rattle.fp_prices_spans.proofs.values.span_costs.least_cost.Goals as goal
 use Rattle.fp_prices_spans.proofs.values.span_costs.least_cost.Goals.{After-drop-ways-2}
@@ -52,18 +52,6 @@ some-of (a ∷ ways) n long is = omega arith
 none-of : (ways : List ℕ) (n : ℕ) → length ways ≡ n → (n == 0) ≡ true → ways ≡ []
 none-of [] n long is = refl
 none-of (a ∷ ways) n long is = absurd (omega (arith, long, eqb-true n 0 is))
-
--- entries past the classes stay free
-still-free : (count : ℕ) (old new : List (Option ℕ)) → length new ≡ length old → ((n : ℕ) → count ≤ n → get_or new n None ≡ get_or old n None) → IsFree count old → IsFree count new
-still-free count old new long others free e from h = others e from ∙ free e from (omega (arith, h, long))
-
--- what the edges cost, by the chains of the leaf
-pub costs-for : (m : PricingModel) (spans : List ClassSpan) (k : ℕ) (old new : List (Option ℕ)) (chains : List (List Leg)) → IsValid m.leaf.setting.problem → IsWholeNetwork m.leaf.setting.problem m.leaf.setting.network →
-    length new ≡ length old → length old ≡ length (edges_of m.leaf.setting.problem m.leaf.setting.network) → ((n : ℕ) → class_count m.leaf.setting.network ≤ n → get_or new n None ≡ get_or old n None) →
-    IsFree (class_count m.leaf.setting.network) old → AreChainsOf m.leaf m.forced chains → AreSpanCostsOf m spans k new →
-    AreCosts m.leaf.setting.problem m.leaf.setting.network (allowed_at m.leaf k) (span_prices_at m spans chains k) (shipment_at m.leaf.setting.problem k).size new
-costs-for m spans k old new chains valid whole long edges others free are_chains are =
-    costs-of m spans chains k new valid whole (long ∙ edges) (still-free (class_count m.leaf.setting.network) old new long others free) are_chains are
 
 pub labels-requires-clause-small : goal.labels-requires-clause-small
 labels-requires-clause-small c =

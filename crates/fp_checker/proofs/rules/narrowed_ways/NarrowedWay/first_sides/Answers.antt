@@ -1,0 +1,21 @@
+-- The bars ask what they ask, and the way's first sides what those of its first steps do.
+use Rattle.std.proofs.Common.{◌∙◌, ◌++◌, List, sym, ap, subst}
+use Rattle.std.specs.Prelude.{take}
+use Rattle.std.proofs.lemmas.Result.{IfOk-weaker}
+use Rattle.fp_tree.specs.declared.sides.Side.{Side}
+use Rattle.fp_tree.specs.Ways.{way_sides}
+use Rattle.fp_checker.specs.LeafWays.{AskAlike, steps_of}
+use Rattle.fp_checker.proofs.BarLists.{AskAlike-append, AskAlike-refl}
+use Rattle.fp_checker.proofs.rules.narrowed_ways.NarrowedWay.first_sides.Goals as goal
+
+pub returns : goal.returns
+returns c =
+    let bars : List Side = c.args.self.now.bars.items in
+    let asked : List Side = take c.args.count (way_sides (steps_of c.args.self.now.way)) in
+    let first : List Side = c.in_ok-first.first.items in
+    IfOk-weaker c.joined.result _ _
+    (λ both is.
+    subst (λ (s : List Side). AskAlike s (bars ++ asked))
+    (sym (is ∙ ap (λ (b : List Side). b ++ c.deref-2.result.now) c.deref.ensures.value ∙ ap (λ (s : List Side). bars ++ s) c.deref-2.ensures.value))
+    (AskAlike-append bars bars first asked (AskAlike-refl bars) c.in_ok-first.ensures))
+    c.joined.ensures

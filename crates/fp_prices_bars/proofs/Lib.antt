@@ -1,0 +1,10 @@
+pub mod ThroughEdges
+pub mod ClassEnds
+pub mod BarredClasses
+pub mod ThroughTotals
+pub mod ShipmentBars
+pub mod SameThroughValues
+pub mod Bars
+pub mod GiftBars
+pub mod SameGiftBars
+pub mod MomentBars

@@ -1,0 +1,200 @@
+//! Certificates with spans in groups: those that `check` accepts, those that it rejects, each by its first
+//! part that fails, and those that it refuses, each by its ordinal and code.
+
+use fp_tests_run::{Checked, wrong_row};
+use std::test::Fail;
+
+// Two shipments that can never leave together, over one span in two groups: each fills a truck alone.
+const APART: &str =
+    "terminal,A\nterminal,B\narc,A,B,5,10,60,0\nshipment,S1,A,B,5,0,9\nshipment,S2,A,B,5,6,14\n";
+
+const APART_GROUPS: &str =
+    "answer,optimal,120\nleg,S1,A,B,0,5\nleg,S2,A,B,6,11\ntruck,A,B,0,1,5\ntruck,A,B,6,1,5\ntable,1\nspan,A,B,0,100001,60000000,0\nweight,S1,60000000\nweight,S2,60000000\ngroup,6\nleaf,1,0,plain\nend\n";
+
+const GROUPED: [Checked; 24] = [
+    (APART, APART_GROUPS, "", "", 0, "accepted,optimal\n"),
+    (
+        APART,
+        APART_GROUPS,
+        "group,6",
+        "group,5",
+        0,
+        "accepted,optimal\n",
+    ),
+    (
+        APART,
+        APART_GROUPS,
+        "group,6",
+        "group,7",
+        12,
+        "rejected,5\n",
+    ),
+    (APART, APART_GROUPS, "group,6\n", "", 12, "rejected,5\n"),
+    (
+        APART,
+        APART_GROUPS,
+        "group,6",
+        "group,4",
+        12,
+        "rejected,5\n",
+    ),
+    (
+        APART,
+        APART_GROUPS,
+        "group,6",
+        "group,4\ngroup,6",
+        0,
+        "accepted,optimal\n",
+    ),
+    (
+        APART,
+        APART_GROUPS,
+        "group,6",
+        "group,6\ngroup,6",
+        12,
+        "rejected,5\n",
+    ),
+    (
+        APART,
+        APART_GROUPS,
+        "group,6",
+        "group,6\ngroup,5",
+        12,
+        "rejected,5\n",
+    ),
+    (
+        APART,
+        APART_GROUPS,
+        "group,6",
+        "group,0\ngroup,6",
+        12,
+        "rejected,5\n",
+    ),
+    (
+        APART,
+        APART_GROUPS,
+        "0,100001,60000000,0",
+        "0,9,60000000,0",
+        0,
+        "accepted,optimal\n",
+    ),
+    (
+        APART,
+        APART_GROUPS,
+        "0,100001,60000000,0\n",
+        "0,6,60000000,0\n",
+        12,
+        "rejected,5\n",
+    ),
+    (
+        APART,
+        APART_GROUPS,
+        "60000000,0\nweight,S1,60000000\nweight,S2,60000000\ngroup,6",
+        "60000000,60000000\nweight,S1,60000000\nweight,S2,60000000\ngroup,7",
+        12,
+        "rejected,7\n",
+    ),
+    (
+        APART,
+        APART_GROUPS,
+        "weight,S1,60000000\n",
+        "weight,S1,60000001\n",
+        12,
+        "rejected,5\n",
+    ),
+    (
+        APART,
+        APART_GROUPS,
+        "60000000,0\nweight,S1,60000000\n",
+        "60000000,1\nweight,S1,60000001\n",
+        0,
+        "accepted,optimal\n",
+    ),
+    (
+        APART,
+        APART_GROUPS,
+        "group,6",
+        "group,6\nweight,S2,1",
+        21,
+        "refused,16,24\n",
+    ),
+    (
+        APART,
+        APART_GROUPS,
+        "weight,S1",
+        "group,6\nweight,S1",
+        21,
+        "refused,14,24\n",
+    ),
+    (
+        APART,
+        APART_GROUPS,
+        "span,A,B,0,100001,60000000,0\n",
+        "group,6\nspan,A,B,0,100001,60000000,0\n",
+        21,
+        "refused,12,24\n",
+    ),
+    (
+        APART,
+        APART_GROUPS,
+        "group,6",
+        "group,6,7",
+        21,
+        "refused,15,22\n",
+    ),
+    (
+        APART,
+        APART_GROUPS,
+        "group,6",
+        "group",
+        21,
+        "refused,15,22\n",
+    ),
+    (
+        APART,
+        APART_GROUPS,
+        "group,6",
+        "group,six",
+        21,
+        "refused,15,23\n",
+    ),
+    (
+        APART,
+        APART_GROUPS,
+        "group,6",
+        "group,100001",
+        21,
+        "refused,15,28\n",
+    ),
+    (
+        APART,
+        APART_GROUPS,
+        "table,1\n",
+        "table,1\nshare,A,B,0,0\ngroup,6\n",
+        21,
+        "refused,13,24\n",
+    ),
+    (
+        APART,
+        APART_GROUPS,
+        "group,6\n",
+        "table,2\ngroup,6\n",
+        21,
+        "refused,16,24\n",
+    ),
+    (
+        APART,
+        APART_GROUPS,
+        "leaf,1,0,plain\n",
+        "leaf,1,0,plain\ngroup,6\n",
+        21,
+        "refused,17,24\n",
+    ),
+];
+
+#[test]
+fn verdicts_by_groups(rt: HostRuntime) -> Result<(), Fail> {
+    let alloc = rt.alloc();
+    assert_eq!(rt; wrong_row(alloc, &GROUPED)?, None);
+    Ok(())
+}
